@@ -1,0 +1,8 @@
+-- for the crates above: when two lists of rows are one
+pub mod Canonical
+-- for the functions of this crate
+pub mod Places
+pub mod Directory
+pub mod Narrowing
+pub mod Sorting
+pub mod Values

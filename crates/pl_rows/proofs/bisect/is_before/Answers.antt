@@ -1,0 +1,12 @@
+use Rattle.std.proofs.Common.{arith, sym, ◌∙◌}
+use Rattle.pl_rows.proofs.Narrowing.{alike_more, differ_here, alike_all}
+use Rattle.pl_rows.proofs.bisect.is_before.Goals as goal
+
+pub returns-then-row-i : goal.returns-then-row-i
+returns-then-row-i c = sym (c.loop-i.invariant ∙ differ_here c.args.or_equal c.args.prefix.now c.args.row.now c.loop-i.i (omega arith) (omega arith) c.if-row-i.true)
+
+pub loop-i-preserved : goal.loop-i-preserved
+loop-i-preserved c = c.loop-i.invariant ∙ alike_more c.args.or_equal c.args.prefix.now c.args.row.now c.loop-i.i (omega arith) (omega arith) c.if-row-i.false
+
+pub returns : goal.returns
+returns c = sym (c.loop-i.invariant ∙ alike_all c.args.or_equal c.args.prefix.now c.args.row.now c.loop-i.i (omega arith))

@@ -1,0 +1,45 @@
+-- How a table's rows lie in memory, and how a bisection narrows them.
+use Rattle.std.specs.Prelude.{◌≡◌, ◌*◌, ◌<◌, ◌≤◌, ◌^◌, ℕ, Bool, true, false, List, [], ◌∷◌, slice_index, length, take, All, if◌then◌else◌, slice_index_or}
+use Rattle.std.specs.Ordering.{is_lt, is_le}
+use Rattle.pl_rows.specs.Rows.{Rows, rows_of, row_cmp, IsAscending}
+
+-- the flat list has just these rows, and they are a table's
+pub record IsLaidOut (arity count : ℕ) (flat : List ℕ) : Type 0 where
+  pub whole : length flat ≡ arity * count
+  pub ascending : IsAscending (rows_of arity count flat)
+  pub values : All (λ value. value < 2 ^ 32) flat
+
+-- the row's first values are below the prefix, or at most the prefix
+abbrev pub comes_before : Bool → List ℕ → List ℕ → Bool
+comes_before or_equal prefix row =
+    let order = row_cmp (take (length prefix) row) prefix in if or_equal then is_le order else is_lt order
+
+-- the rows before `low` pass a test, and those from `high` on don't
+pub record IsNarrowed (passes : List ℕ → Bool) (rows : List (List ℕ)) (low high : ℕ) : Type 0 where
+  pub before : (i : ℕ) → i < low → passes (slice_index_or rows i []) ≡ true
+  pub after : (i : ℕ) → high ≤ i → i < length rows → passes (slice_index_or rows i []) ≡ false
+
+-- for each number below the directory's length, how many rows have a lesser first value: these are the first ones
+abbrev pub IsDirectory : List (List ℕ) → List ℕ → Type 0
+IsDirectory rows starts =
+    (value : ℕ) → value < length starts →
+    (slice_index starts value ≤ length rows) × IsNarrowed (comes_before false (value ∷ [])) rows (slice_index starts value) (slice_index starts value)
+
+-- what an index keeps: keys no longer than the rows, and a directory of the table's first values
+pub record IsIndexed (table : Rows) (width : ℕ) (starts : List ℕ) : Type 0 where
+  pub within : width ≤ table.arity
+  pub directory : IsDirectory table.rows starts
+
+-- the rows whose first values are the key stand somewhere from one place up to another
+pub record IsBracket (key : List ℕ) (rows : List (List ℕ)) (from to : ℕ) : Type 0 where
+  pub in_order : from ≤ to
+  pub within : to ≤ length rows
+  pub below : IsNarrowed (comes_before false key) rows from to
+  pub at_most : IsNarrowed (comes_before true key) rows from to
+
+-- just the rows whose first values are the key stand from one place up to another
+pub record IsFound (key : List ℕ) (rows : List (List ℕ)) (from to : ℕ) : Type 0 where
+  pub in_order : from ≤ to
+  pub within : to ≤ length rows
+  pub below : IsNarrowed (comes_before false key) rows from from
+  pub at_most : IsNarrowed (comes_before true key) rows to to

@@ -1,0 +1,76 @@
+//! Rows in a flat slice: the row at a place, and bisection.
+
+ghost use Rattle.std.specs.Prelude.{◌≡◌, ◌↔◌, ◌*◌, ◌<◌, ◌≤◌, length, IsTrue, Contains, slice_get};
+ghost use Rattle.pl_rows.specs.Rows.{rows_of, IsAscending};
+ghost use Rattle.pl_rows.specs.Layout.{comes_before, IsNarrowed};
+
+/// Row `i` of the rows that lie in `flat`.
+#[inline]
+pub fn row_at(flat: &[u32], arity: usize, count: usize, i: usize) -> &[u32]
+    requires whole { length flat.now ≡ arity * count }
+    requires within { i < count }
+    ensures row { slice_get (rows_of arity count flat.now) i ≡ Some result.now }
+    ensures width { length result.now ≡ arity }
+{
+    let from = i * arity;
+    &flat[from..from + arity]
+}
+
+/// How many rows have first values that are below the prefix, or with `or_equal` at most the prefix.
+///
+/// That the rows before `low` are among them, and those from `high` on are not, is known.
+#[inline]
+pub fn bisect(
+    flat: &[u32],
+    arity: usize,
+    count: usize,
+    prefix: &[u32],
+    or_equal: bool,
+    mut low: usize,
+    mut high: usize,
+) -> usize
+    requires whole { length flat.now ≡ arity * count }
+    requires ascending { IsAscending (rows_of arity count flat.now) }
+    requires short { length prefix.now ≤ arity }
+    requires in_order { low ≤ high }
+    requires within { high ≤ count }
+    requires narrowed { IsNarrowed (comes_before or_equal prefix.now) (rows_of arity count flat.now) low high }
+    ensures from { low ≤ result }
+    ensures to { result ≤ high }
+    ensures narrowed { IsNarrowed (comes_before or_equal prefix.now) (rows_of arity count flat.now) result result }
+{
+    while low < high {
+        let middle = low + (high - low) / 2;
+        if is_before(row_at(flat, arity, count, middle), prefix, or_equal) {
+            low = middle + 1;
+        } else {
+            high = middle;
+        }
+    }
+    low
+}
+
+#[inline]
+fn is_before(row: &[u32], prefix: &[u32], or_equal: bool) -> bool
+    requires { length prefix.now ≤ length row.now }
+    ensures { result ≡ comes_before or_equal prefix.now row.now }
+{
+    for i in 0..prefix.len() {
+        if row[i] != prefix[i] {
+            return row[i] < prefix[i];
+        }
+    }
+    or_equal
+}
+
+/// Whether the rows in `flat` have the row.
+#[inline]
+pub fn has_row(flat: &[u32], arity: usize, count: usize, row: &[u32]) -> bool
+    requires whole { length flat.now ≡ arity * count }
+    requires ascending { IsAscending (rows_of arity count flat.now) }
+    requires width { length row.now ≡ arity }
+    ensures { IsTrue result ↔ Contains (rows_of arity count flat.now) row.now }
+{
+    let place = bisect(flat, arity, count, row, false, 0, count);
+    place < count && row_at(flat, arity, count, place) == row
+}

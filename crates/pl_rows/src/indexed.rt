@@ -1,0 +1,194 @@
+//! A table that is looked up by the first values of its rows.
+
+ghost use Rattle.std.specs.Prelude.{◌≡◌, ◌+◌, ◌-◌, ◌<◌, ◌≤◌, ◌^◌, ◌++◌, ◌∷◌, [], List, ℕ, length, count_by, replicate, filter, slice_range, IfOk, IfSome, OnOk};
+ghost use Rattle.pl_rows.specs.Rows.{AreRowsOf, is_below, begins_with};
+ghost use Rattle.pl_rows.specs.Layout.{IsDirectory, IsBracket, IsFound};
+
+use crate::table::Table;
+use pl_steps::Steps;
+use std::alloc::{AllocError, Global};
+use std::marker::Model;
+use std::sync::ledger::Ledger;
+
+/// Up to how many numbers, for each row of the table, the directory has entries.
+const ENTRIES_PER_ROW: usize = 4;
+
+/// The places of neighboring rows: from the first one up to, and without, the last one.
+#[derive(Clone, Copy, Debug, PartialEq, Eq)]
+pub struct Range {
+    pub from: usize,
+    pub to: usize,
+}
+
+/// A table whose rows are found by a key: their first `width` values.
+///
+/// Rows with one key are neighbors, so the answer to a look-up is a range of places. A directory by the first value
+/// narrows each look-up to the rows with that value, and bisection does the rest. So a key of one value takes no search
+/// where the table's first values are small numbers, as the numbers of objects are.
+#[derive(Drop)]
+pub struct Indexed {
+    table: Table,
+    width: u32,
+    starts: Vec<u32>,
+}
+
+impl Model for Indexed {
+    ghost use Rattle.pl_rows.specs.Rows.{IndexedRows};
+    ghost use Rattle.pl_rows.specs.Layout.{IsIndexed};
+
+    ghost Value = { IndexedRows };
+
+    ghost view = { λ x. record { table = x.table; width = x.width } };
+
+    ghost invariant = { λ x. IsIndexed x.table x.width x.starts.items };
+}
+
+impl Indexed {
+    /// The table with an index for keys of `width` values. It takes one probe per row.
+    ///
+    /// The only error is want of memory. It gives the table up.
+    pub fn build<L: Ledger>(
+        alloc: Global,
+        table: Table,
+        width: u32,
+        steps: &mut Steps<L>,
+    ) -> Result<Indexed, AllocError>
+        requires { width ≤ table.arity }
+        ensures table { IfOk result (λ x. x.table ≡ table) }
+        ensures width { IfOk result (λ x. x.width ≡ width) }
+        ensures cost { OnOk result (steps.new ≡ steps.old + length table.rows) }
+        ensures rise { steps.old ≤ steps.new }
+        ensures most { steps.new ≤ steps.old + length table.rows }
+    {
+        let limit = directory_limit(table.len(), width);
+        let starts = directory(alloc, &table, limit, steps)?;
+        Ok(Indexed {
+            table,
+            width,
+            starts,
+        })
+    }
+
+    /// The table.
+    pub fn table(&self) -> &Table
+        ensures { result.now ≡ self.now.table }
+    {
+        &self.table
+    }
+
+    /// How many values a key has.
+    pub fn width(&self) -> u32
+        ensures width { result ≡ self.now.width }
+        ensures within { self.now.width ≤ self.now.table.arity }
+    {
+        self.width
+    }
+
+    /// The rows whose first values are the key, in one probe: the places that they have in the table.
+    ///
+    /// Where there is none, the range is empty, at the place where they would be.
+    pub fn find<L: Ledger>(&self, key: &[u32], steps: &mut Steps<L>) -> Range
+        requires { length key.now ≡ self.now.width }
+        ensures rows { AreRowsOf key.now self.now.table.rows result.from result.to }
+        ensures from { result.from ≡ count_by (is_below key.now) self.now.table.rows }
+        ensures all { slice_range self.now.table.rows result.from result.to
+            ≡ filter (begins_with key.now) self.now.table.rows }
+        ensures cost { steps.new ≡ steps.old + 1 }
+    {
+        steps.tick();
+        if self.width == 1 {
+            if let Some(range) = listed(&self.table, &self.starts, key[0]) {
+                return range;
+            }
+        }
+        let near = bracket(&self.table, &self.starts, key);
+        let from = self.table.bisected(key, false, near.from, near.to);
+        let to = self.table.bisected(key, true, from, near.to);
+        Range { from, to }
+    }
+}
+
+/// How many numbers the directory of a table with so many rows may have entries for.
+fn directory_limit(count: usize, width: u32) -> usize
+    ensures { 0 < result → (0 < width) × (count < 2 ^ 32) }
+{
+    if width == 0 || count > u32::MAX as usize {
+        return 0;
+    }
+    count * ENTRIES_PER_ROW
+}
+
+/// For each number below the limit, as far as there are greater first values: how many rows have a lesser first value.
+fn directory<L: Ledger>(
+    alloc: Global,
+    table: &Table,
+    limit: usize,
+    steps: &mut Steps<L>,
+) -> Result<Vec<u32>, AllocError>
+    requires { 0 < limit → (0 < table.now.arity) × (length table.now.rows < 2 ^ 32) }
+    ensures directory { IfOk result (λ starts. IsDirectory table.now.rows starts.items) }
+    ensures cost { OnOk result (steps.new ≡ steps.old + length table.now.rows) }
+    ensures rise { steps.old ≤ steps.new }
+    ensures most { steps.new ≤ steps.old + length table.now.rows }
+{
+    let count = table.len();
+    let mut starts = Vec::new(alloc);
+    for i in 0..count {
+        let row = table.row(i, steps);
+        if 0 < limit {
+            extend(&mut starts, (row[0] as usize + 1).min(limit), i as u32)?;
+        }
+    }
+    if starts.len() < limit {
+        starts.push(count as u32)?;
+    }
+    Ok(starts)
+}
+
+/// Appends the value until there are `len` of them.
+fn extend(starts: &mut Vec<u32>, len: usize, value: u32) -> Result<(), AllocError>
+    ensures { OnOk result (starts.new.items
+        ≡ starts.old.items ++ replicate (len - length starts.old.items) value) }
+{
+    while starts.len() < len {
+        starts.push(value)?;
+    }
+    Ok(())
+}
+
+/// The rows with this first value, if the directory has them.
+#[inline]
+fn listed(table: &Table, starts: &[u32], first: u32) -> Option<Range>
+    requires { IsDirectory table.now.rows starts.now }
+    ensures { IfSome result (λ range. IsFound (first ∷ []) table.now.rows range.from range.to) }
+{
+    let first = first as usize;
+    if starts.len() <= first + 1 {
+        return None;
+    }
+    Some(Range {
+        from: starts[first] as usize,
+        to: starts[first + 1] as usize,
+    })
+}
+
+/// Between which places the rows with the key are, by the key's first value.
+#[inline]
+fn bracket(table: &Table, starts: &[u32], key: &[u32]) -> Range
+    requires { IsDirectory table.now.rows starts.now }
+    ensures { IsBracket key.now table.now.rows result.from result.to }
+{
+    let count = table.len();
+    if key.is_empty() {
+        return Range { from: 0, to: count };
+    }
+    let first = key[0] as usize;
+    if first + 1 < starts.len() {
+        return Range {
+            from: starts[first] as usize,
+            to: starts[first + 1] as usize,
+        };
+    }
+    let from = starts.last().copied().unwrap_or(0) as usize;
+    Range { from, to: count }
+}

@@ -1,0 +1,273 @@
+//! Rows and places that were worked out by hand.
+
+ghost use Rattle.std.specs.Prelude.{◌≡◌, ◌<◌};
+
+use crate::{Indexed, Range, Table, laws};
+use pl_steps::Steps;
+use std::alloc::{AllocError, Global};
+use std::marker::Brand;
+use std::sync::ledger::{Blank, Ledger};
+use std::test::Fail;
+
+/// Rows as they are given, and as the table has them.
+struct Given {
+    arity: u32,
+    rows: usize,
+    flat: &'static [u32],
+    table: &'static [&'static [u32]],
+}
+
+const GIVEN: &[Given] = &[
+    Given {
+        arity: 2,
+        rows: 3,
+        flat: &[1, 0, 0, 1, 1, 0],
+        table: &[&[0, 1], &[1, 0]],
+    },
+    Given {
+        arity: 0,
+        rows: 3,
+        flat: &[],
+        table: &[&[]],
+    },
+    Given {
+        arity: 0,
+        rows: 0,
+        flat: &[],
+        table: &[],
+    },
+    Given {
+        arity: 3,
+        rows: 0,
+        flat: &[],
+        table: &[],
+    },
+    Given {
+        arity: 1,
+        rows: 5,
+        flat: &[7, 3, 7, 0, 3],
+        table: &[&[0], &[3], &[7]],
+    },
+    Given {
+        arity: 2,
+        rows: 2,
+        flat: &[0, 9, 1, 0],
+        table: &[&[0, 9], &[1, 0]],
+    },
+    Given {
+        arity: 3,
+        rows: 3,
+        flat: &[2, 0, 1, 1, 9, 9, 2, 0, 0],
+        table: &[&[1, 9, 9], &[2, 0, 0], &[2, 0, 1]],
+    },
+    Given {
+        arity: 5,
+        rows: 3,
+        flat: &[1, 1, 1, 1, 2, 1, 1, 1, 1, 1, 1, 1, 1, 1, 2],
+        table: &[&[1, 1, 1, 1, 1], &[1, 1, 1, 1, 2]],
+    },
+];
+
+/// A key, how many rows are below it, and how many begin with it.
+struct Asked {
+    key: &'static [u32],
+    below: usize,
+    with: usize,
+}
+
+/// The rows that `ASKED` is about: six rows of three values.
+const ROWS: &[u32] = &[
+    1, 2, 3, 1, 2, 5, 1, 4, 0, 2, 0, 0, 2, 0, 7, 4000000000, 4, 4,
+];
+
+const ASKED: &[Asked] = &[
+    Asked {
+        key: &[],
+        below: 0,
+        with: 6,
+    },
+    Asked {
+        key: &[0],
+        below: 0,
+        with: 0,
+    },
+    Asked {
+        key: &[1],
+        below: 0,
+        with: 3,
+    },
+    Asked {
+        key: &[2],
+        below: 3,
+        with: 2,
+    },
+    Asked {
+        key: &[3],
+        below: 5,
+        with: 0,
+    },
+    Asked {
+        key: &[100000],
+        below: 5,
+        with: 0,
+    },
+    Asked {
+        key: &[4000000000],
+        below: 5,
+        with: 1,
+    },
+    Asked {
+        key: &[4294967295],
+        below: 6,
+        with: 0,
+    },
+    Asked {
+        key: &[1, 1],
+        below: 0,
+        with: 0,
+    },
+    Asked {
+        key: &[1, 2],
+        below: 0,
+        with: 2,
+    },
+    Asked {
+        key: &[1, 3],
+        below: 2,
+        with: 0,
+    },
+    Asked {
+        key: &[2, 0],
+        below: 3,
+        with: 2,
+    },
+    Asked {
+        key: &[2, 1],
+        below: 5,
+        with: 0,
+    },
+    Asked {
+        key: &[1, 2, 3],
+        below: 0,
+        with: 1,
+    },
+    Asked {
+        key: &[1, 2, 4],
+        below: 1,
+        with: 0,
+    },
+    Asked {
+        key: &[2, 0, 7],
+        below: 4,
+        with: 1,
+    },
+    Asked {
+        key: &[4000000000, 4, 4],
+        below: 5,
+        with: 1,
+    },
+    Asked {
+        key: &[4000000000, 4, 5],
+        below: 6,
+        with: 0,
+    },
+];
+
+fn table_of(
+    alloc: Global,
+    arity: u32,
+    rows: usize,
+    flat: &[u32],
+) -> Result<Option<Table>, AllocError> {
+    if (arity as usize).checked_mul(rows) != Some(flat.len()) {
+        return Ok(None);
+    }
+    let flat = Vec::from_slice(alloc, flat)?;
+    let table = Table::from_rows(alloc, arity, rows, flat)?;
+    Ok(Some(table))
+}
+
+fn reads<L: Ledger>(table: &Table, rows: &[&[u32]], steps: &mut Steps<L>) -> bool {
+    if table.len() != rows.len() || table.is_empty() != rows.is_empty() {
+        return false;
+    }
+    for (i, row) in rows.iter().enumerate() {
+        if table.row(i, steps) != *row {
+            return false;
+        }
+    }
+    true
+}
+
+fn is_given<L: Ledger>(alloc: Global, given: &Given, blank: Blank) -> Result<bool, AllocError>
+    requires name { blank.name ≡ L.name }
+    requires parts { blank.parts ≡ L.parts }
+    requires some { 0 < blank.parts }
+{
+    let mut steps: Steps<L> = Steps::new(blank);
+    match table_of(alloc, given.arity, given.rows, given.flat)? {
+        None => Ok(false),
+        Some(table) => Ok(table.arity() == given.arity && reads(&table, given.table, &mut steps)),
+    }
+}
+
+fn finds<L: Ledger>(
+    alloc: Global,
+    table: Table,
+    asked: &Asked,
+    steps: &mut Steps<L>,
+) -> Result<bool, AllocError> {
+    let Ok(width) = u32::try_from(asked.key.len()) else {
+        return Ok(false);
+    };
+    if table.arity() < width {
+        return Ok(false);
+    }
+    let indexed = Indexed::build(alloc, table, width, steps)?;
+    if indexed.table().len() != 6 || indexed.width() as usize != asked.key.len() {
+        return Ok(false);
+    }
+    let want = Range {
+        from: asked.below,
+        to: asked.below.wrapping_add(asked.with),
+    };
+    Ok(indexed.find(asked.key, steps) == want)
+}
+
+fn is_answered<L: Ledger>(alloc: Global, asked: &Asked, blank: Blank) -> Result<bool, AllocError>
+    requires name { blank.name ≡ L.name }
+    requires parts { blank.parts ≡ L.parts }
+    requires some { 0 < blank.parts }
+{
+    let mut steps: Steps<L> = Steps::new(blank);
+    let Some(table) = table_of(alloc, 3, 6, ROWS)? else {
+        return Ok(false);
+    };
+    let arity = table.arity() as usize;
+    if asked.key.len() > arity || table.first_from(asked.key, &mut steps) != asked.below {
+        return Ok(false);
+    }
+    if asked.key.len() == arity && table.has(asked.key, &mut steps) != (asked.with == 1) {
+        return Ok(false);
+    }
+    finds(alloc, table, asked, &mut steps)
+}
+
+#[test]
+fn a_table_has_each_row_once_and_in_order(rt: HostRuntime) -> Result<(), Fail> {
+    laws::one_list_for_a_set();
+    for (i, given) in GIVEN.iter().enumerate() {
+        let met = is_given::<Brand>(rt.alloc(), given, Blank::new(1))?;
+        assert!(rt; met, "case {i}");
+    }
+    Ok(())
+}
+
+#[test]
+fn keys_of_every_length_are_found(rt: HostRuntime) -> Result<(), Fail> {
+    for (i, asked) in ASKED.iter().enumerate() {
+        let met = is_answered::<Brand>(rt.alloc(), asked, Blank::new(1))?;
+        assert!(rt; met, "case {i}");
+    }
+    Ok(())
+}

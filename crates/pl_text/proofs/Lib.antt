@@ -1,0 +1,15 @@
+-- laws on forms, for the crates above too
+pub mod FormLaws
+mod NestingLemmas
+mod CommentLemmas
+mod TokenLemmas
+mod CountLemmas
+mod RiseLemmas
+mod FaultLemmas
+mod ReadingLemmas
+mod SpanLemmas
+mod TokenLaws
+mod FormsOneLaws
+mod FaultOneLaws
+mod ReadsLaws
+mod WordLaws
