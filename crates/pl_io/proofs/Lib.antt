@@ -1,0 +1,6 @@
+-- bytes that are read or written a part at a time
+pub mod Parts
+-- the first file of a name, by its place
+pub mod Places
+-- calls that are interrupted, and made again
+pub mod Kept

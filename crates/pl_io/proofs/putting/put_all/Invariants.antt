@@ -1,0 +1,18 @@
+use Rattle.std.proofs.Common.{◌≡◌, ◌-◌, ◌≤◌, length, take}
+use Rattle.std.specs.Io.KnownBytes.{Appends}
+use Rattle.pl_io.specs.Outside.{SameTelling}
+use Rattle.pl_io.proofs.putting.put_all.Given as goal
+
+-- so many bytes were written, from the front
+abbrev pub invariant-loop-done : goal.invariant-loop-done
+invariant-loop-done g l =
+    record {
+      within : l.done ≤ length l.bytes;
+      written : Appends (g.O.Sink.written l.fn.sink) (g.O.Sink.written l.sink) (take l.done l.bytes);
+      told : SameTelling (g.O.Sink.written l.fn.sink) (g.O.Sink.written l.sink);
+      later : g.O.Sink.faults l.fn.sink ≤ g.O.Sink.faults l.sink;
+      empty : length l.bytes ≡ 0 → l.sink ≡ l.fn.sink;
+    }
+
+abbrev pub decreases-loop-done : goal.decreases-loop-done
+decreases-loop-done g l = length l.bytes - l.done

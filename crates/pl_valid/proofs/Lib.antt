@@ -1,0 +1,8 @@
+-- a set of atoms as a state
+mod AtomSets
+-- what the parts of a well-formed task and step give their functions
+mod StepLemmas
+-- lines that were executed, and that there is one verdict
+mod RunLemmas
+-- the task of the tests
+mod LampLemmas
