@@ -253,6 +253,22 @@ fn is_answered<L: Ledger>(alloc: Global, asked: &Asked, blank: Blank) -> Result<
     finds(alloc, table, asked, &mut steps)
 }
 
+/// How many rows of the first table are below the key.
+fn pairs_below<L: Ledger>(alloc: Global, key: &[u32], blank: Blank) -> Result<usize, AllocError>
+    requires name { blank.name ≡ L.name }
+    requires parts { blank.parts ≡ L.parts }
+    requires some { 0 < blank.parts }
+{
+    let mut steps: Steps<L> = Steps::new(blank);
+    let Some(table) = table_of(alloc, 2, 3, &[1, 0, 0, 1, 1, 0])? else {
+        return Ok(usize::MAX);
+    };
+    if key.len() > table.arity() as usize {
+        return Ok(usize::MAX);
+    }
+    Ok(table.first_from(key, &mut steps))
+}
+
 #[test]
 fn a_table_has_each_row_once_and_in_order(rt: HostRuntime) -> Result<(), Fail> {
     laws::one_list_for_a_set();
@@ -268,6 +284,23 @@ fn keys_of_every_length_are_found(rt: HostRuntime) -> Result<(), Fail> {
     for (i, asked) in ASKED.iter().enumerate() {
         let met = is_answered::<Brand>(rt.alloc(), asked, Blank::new(1))?;
         assert!(rt; met, "case {i}");
+    }
+    Ok(())
+}
+
+#[test]
+fn a_key_counts_the_rows_below_it(rt: HostRuntime) -> Result<(), Fail> {
+    let cases: [(&[u32], usize); 6] = [
+        (&[], 0),
+        (&[0], 0),
+        (&[0, 2], 1),
+        (&[1], 1),
+        (&[1, 1], 2),
+        (&[2], 2),
+    ];
+    for (key, below) in cases {
+        let found = pairs_below::<Brand>(rt.alloc(), key, Blank::new(1))?;
+        assert_eq!(rt; found, below);
     }
     Ok(())
 }
