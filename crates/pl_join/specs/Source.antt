@@ -1,0 +1,79 @@
+-- Where the values of slots and classes stand in a row, and which rows are picked and kept by them.
+use Rattle.std.specs.Prelude.{◌≡◌, ◌↔◌, ◌<◌, ◌==◌, ◌++◌, ℕ, Bool, cond, not, List, length, drop, map, filter, All, Contains, slice_index}
+use Rattle.std.specs.List.{AllPairs, list_any}
+use Rattle.std.specs.Str.{bytes_eq}
+use Rattle.pl_rows.specs.Rows.{Rows, AreRows, begins_with}
+use Rattle.pl_join.specs.declared.slot.Slot.{Slot}
+use Rattle.pl_join.specs.declared.slot.Slot.TheVariants.{Class}
+use Rattle.pl_join.specs.Relation.{Assignment, AreDistinct, slot_value, has_class}
+use Rattle.pl_join.specs.declared.source.Source.{Source}
+use Rattle.pl_join.specs.declared.source.Source.TheVariants.{Fixed, Column}
+
+-- the value that a source has in a row
+abbrev pub value_at : List ℕ → Source → ℕ
+value_at row (Fixed value) = value
+value_at row (Column column) = slice_index row column
+
+-- a source of rows with so many columns
+abbrev pub IsWithin : ℕ → Source → Type 0
+IsWithin arity source = (column : ℕ) → source ≡ Column column → column < arity
+
+-- the values of some columns of a row
+abbrev pub picked : List ℕ → List ℕ → List ℕ
+picked columns row = map (slice_index row) columns
+
+-- the values of some sources in a row
+abbrev pub looked_at : List Source → List ℕ → List ℕ
+looked_at sources row = map (value_at row) sources
+
+-- whether the row is among the rows
+abbrev pub has_row : List (List ℕ) → List ℕ → Bool
+has_row rows row = list_any (bytes_eq row) rows
+
+-- whether the two sources differ in a row
+abbrev pub differ : Source → Source → List ℕ → Bool
+differ a b row = not (value_at row a == value_at row b)
+
+-- what was found, or with `wanted` false what was not
+abbrev pub is_wanted : Bool → Bool → Bool
+is_wanted wanted found = cond wanted found (not found)
+
+-- whether the values of the sources are a row of the others, or with `wanted` false whether they are none
+abbrev pub is_kept : Bool → List (List ℕ) → List Source → List ℕ → Bool
+is_kept wanted rows sources row = is_wanted wanted (has_row rows (looked_at sources row))
+
+-- whether the values of the columns, put where the sources say, are the row itself
+abbrev pub fits_slots : List Source → List ℕ → List ℕ → Bool
+fits_slots sources columns row = bytes_eq row (looked_at sources (picked columns row))
+
+-- what the fields of a relation keep: distinct classes below 64, and a table with one column for each of them
+pub record IsKept (classes : List ℕ) (table : Rows) : Type 0 where
+  pub arity : table.arity ≡ length classes
+  pub distinct : AreDistinct classes
+  pub below : All (λ c. c < 64) classes
+  pub rows : AreRows (length classes) table.rows
+
+-- which columns of the rows of slots have the values of the classes
+pub record ArePlacesOf (slots : List Slot) (classes columns : List ℕ) : Type 0 where
+  pub len : length columns ≡ length classes
+  pub within : All (λ column. column < length slots) columns
+  pub values : (f : Assignment) → picked columns (map (slot_value f) slots) ≡ map f classes
+
+-- the classes of the slots that are below a number, and where they stand
+pub record IsGathered (slots : List Slot) (classes columns : List ℕ) (limit : ℕ) : Type 0 where
+  pub rising : AllPairs (λ a b. a < b) classes
+  pub below : All (λ c. c < limit) classes
+  pub members : (c : ℕ) → Contains classes c ↔ (Contains slots (Class c) × (c < limit))
+  pub places : ArePlacesOf slots classes columns
+
+-- the classes that are among the others, or with `wanted` false those that are not, in their order
+abbrev pub classes_by : Bool → List ℕ → List ℕ → List ℕ
+classes_by wanted classes others = filter (λ c. is_wanted wanted (has_class others c)) classes
+
+-- a row, and behind it another without its first `width` values
+abbrev pub glued : ℕ → List ℕ → List ℕ → List ℕ
+glued width row other = row ++ drop width other
+
+-- the rows that join a row: behind it each row whose first values are the row's in the columns, without these values
+abbrev pub joined_with : List (List ℕ) → List ℕ → List ℕ → List (List ℕ)
+joined_with others columns row = map (glued (length columns) row) (filter (begins_with (picked columns row)) others)

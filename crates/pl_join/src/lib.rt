@@ -1,0 +1,24 @@
+//! Relations over classes of parameters, and their operations: selection, filters, projection, semijoin and join.
+//!
+//! What a relation is, which assignments it holds, and what each operation gives, in the words of database theory, stand
+//! in `specs/Relation.antt`.
+#![tactic(auto)]
+
+mod filters;
+mod joins;
+mod projection;
+mod relation;
+mod selection;
+mod semijoins;
+mod slot;
+mod source;
+#[cfg(test)]
+mod tests;
+
+pub use filters::{filter_absent, filter_unequal};
+pub use joins::hash_join;
+pub use projection::project;
+pub use relation::Relation;
+pub use selection::select;
+pub use semijoins::semijoin;
+pub use slot::Slot;

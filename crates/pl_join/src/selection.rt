@@ -1,0 +1,146 @@
+//! The selection of a table's rows by slots.
+
+ghost use Rattle.std.specs.Prelude.{◌≡◌, ◌↔◌, ◌+◌, ◌<◌, ◌≤◌, ◌^◌, ℕ, length, map, filter, slice_get, All, Some, IsTrue, Contains, IfOk, OnOk, IfSome, IfNone};
+ghost use Rattle.std.specs.Str.{bytes_eq};
+ghost use Rattle.pl_rows.specs.Rows.{AreRows, SameRows};
+ghost use Rattle.pl_join.specs.Relation.{AreClassesOf, IsSelectionOf, IsSlotBelow};
+ghost use Rattle.pl_join.specs.Source.{ArePlacesOf, IsGathered, IsWithin, picked, looked_at, fits_slots};
+
+use crate::relation::Relation;
+use crate::slot::Slot;
+use crate::source::{Source, pick, sources_of, value_in};
+use pl_rows::Table;
+use pl_steps::Steps;
+use std::alloc::{AllocError, Global};
+use std::sync::ledger::Ledger;
+
+/// The number of classes: they are the numbers below it.
+const CLASSES: u32 = 64;
+
+/// The relation over the classes of the slots, by rising number, whose rows are the values for which the row of the slots
+/// is in the table. There is one slot for each column.
+///
+/// It takes one probe per row. Where the slots are rising classes, the rows come out in order and are not sorted.
+pub fn select<L: Ledger>(
+    alloc: Global,
+    table: &Table,
+    slots: &[Slot],
+    steps: &mut Steps<L>,
+) -> Result<Relation, AllocError>
+    requires slots { All (IsSlotBelow 64) slots.now }
+    requires arity { length slots.now ≡ table.now.arity }
+    ensures classes { IfOk result (λ r. AreClassesOf slots.now r.classes) }
+    ensures rows { IfOk result (IsSelectionOf table.now.rows slots.now) }
+    ensures cost { steps.new ≤ steps.old + length table.now.rows }
+{
+    let (classes, columns) = classes_of(alloc, slots)?;
+    let sources = sources_of(alloc, &classes, slots)?;
+    let kept = fitting_rows(alloc, table, &columns, &sources, steps)?;
+    Ok(Relation::new(classes, kept))
+}
+
+/// The classes of the slots by rising number, and for each class a place where it stands.
+fn classes_of(alloc: Global, slots: &[Slot]) -> Result<(Vec<u32>, Vec<usize>), AllocError>
+    requires { All (IsSlotBelow 64) slots.now }
+    ensures classes { IfOk result (λ r. AreClassesOf slots.now r.0.items) }
+    ensures below { IfOk result (λ r. All (λ c. c < 64) r.0.items) }
+    ensures places { IfOk result (λ r. ArePlacesOf slots.now r.0.items r.1.items) }
+{
+    let mut classes = Vec::new(alloc);
+    let mut columns = Vec::new(alloc);
+    for class in 0..CLASSES {
+        gather(slots, class, &mut classes, &mut columns)?;
+    }
+    Ok((classes, columns))
+}
+
+/// Appends the class and a place where it stands, if it stands in the slots. Those before it are gathered already.
+fn gather(
+    slots: &[Slot],
+    class: u32,
+    classes: &mut Vec<u32>,
+    columns: &mut Vec<usize>,
+) -> Result<(), AllocError>
+    requires { IsGathered slots.now classes.old.items columns.old.items class }
+    ensures { OnOk result (IsGathered slots.now classes.new.items columns.new.items (class + 1)) }
+{
+    match place_in(slots, class) {
+        None => Ok(()),
+        Some(place) => {
+            classes.push(class)?;
+            columns.push(place)?;
+            Ok(())
+        }
+    }
+}
+
+/// The first place where the class stands, if it does.
+fn place_in(slots: &[Slot], class: u32) -> Option<usize>
+    ensures place { IfSome result (λ place. slice_get slots.now place ≡ Some (Slot.Class class)) }
+    ensures none { IfNone result (Contains slots.now (Slot.Class class) → ⊥) }
+{
+    for (place, slot) in slots.iter().enumerate() {
+        if is_class(*slot, class) {
+            return Some(place);
+        }
+    }
+    None
+}
+
+/// Whether the slot is this class.
+fn is_class(slot: Slot, class: u32) -> bool
+    ensures { IsTrue result ↔ (slot ≡ Slot.Class class) }
+{
+    match slot {
+        Slot::Fixed(_) => false,
+        Slot::Class(known) => known == class,
+    }
+}
+
+/// The values in the columns, of the rows that are what the sources give for these values.
+fn fitting_rows<L: Ledger>(
+    alloc: Global,
+    table: &Table,
+    columns: &[usize],
+    sources: &[Source],
+    steps: &mut Steps<L>,
+) -> Result<Table, AllocError>
+    requires columns { All (λ column. column < table.now.arity) columns.now }
+    requires sources { All (IsWithin (length columns.now)) sources.now }
+    requires arity { length sources.now ≡ table.now.arity }
+    requires few { length columns.now < 2 ^ 32 }
+    ensures arity { IfOk result (λ t. t.arity ≡ length columns.now) }
+    ensures rows { IfOk result (λ t. AreRows (length columns.now) t.rows) }
+    ensures same { IfOk result (λ t. SameRows t.rows
+        (map (picked columns.now) (filter (fits_slots sources.now columns.now) table.now.rows))) }
+    ensures cost { steps.new ≤ steps.old + length table.now.rows }
+{
+    let mut flat = Vec::new(alloc);
+    let mut count = 0;
+    let mut values = vec![in alloc; 0; columns.len()]?;
+    let values = values.as_mut_slice();
+    for i in 0..table.len() {
+        let row = table.row(i, steps);
+        pick(values, row, columns);
+        if fits(row, values, sources) {
+            flat.extend_from_slice(values)?;
+            count += 1;
+        }
+    }
+    Table::from_rows(alloc, columns.len() as u32, count, flat)
+}
+
+/// Whether the row is what the sources give for the values.
+#[inline]
+fn fits(row: &[u32], values: &[u32], sources: &[Source]) -> bool
+    requires arity { length sources.now ≡ length row.now }
+    requires within { All (IsWithin (length values.now)) sources.now }
+    ensures { result ≡ bytes_eq row.now (looked_at sources.now values.now) }
+{
+    for (i, source) in sources.iter().enumerate() {
+        if row[i] != value_in(values, *source) {
+            return false;
+        }
+    }
+    true
+}

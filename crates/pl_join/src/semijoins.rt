@@ -1,0 +1,98 @@
+//! The semijoin of two relations.
+
+ghost use Rattle.std.specs.Prelude.{◌≡◌, ◌+◌, ◌*◌, ◌<◌, ◌≤◌, ◌^◌, ℕ, length, map, filter, All, Contains, IfOk};
+ghost use Rattle.pl_join.specs.Relation.{IsJoinOf, IsSemijoinOf, has_class};
+ghost use Rattle.pl_join.specs.Source.{classes_by};
+
+use crate::filters::{is_as_wanted, kept_rows};
+use crate::projection::project;
+use crate::relation::Relation;
+use crate::slot::Slot;
+use crate::source::sources_of;
+use pl_steps::Steps;
+use std::alloc::{AllocError, Global};
+use std::sync::ledger::Ledger;
+
+/// The rows of `keep` that agree with at least one row of `by` on all shared classes, over the classes of `keep` in their
+/// order.
+///
+/// It takes at most two probes per row of `keep` and one per row of `by`. The rows that are kept are not sorted. Those of
+/// `by` are projected onto the shared classes first, unless these are all that it has.
+pub fn semijoin<L: Ledger>(
+    alloc: Global,
+    keep: &Relation,
+    by: &Relation,
+    steps: &mut Steps<L>,
+) -> Result<Relation, AllocError>
+    ensures classes { IfOk result (λ r. r.classes ≡ keep.now.classes) }
+    ensures rows { IfOk result (IsSemijoinOf keep.now by.now) }
+    ensures cost { steps.new ≤ steps.old + 2 * length keep.now.rows + length by.now.rows }
+{
+    let classes = by.classes();
+    let shared = chosen_classes(alloc, classes, keep.classes(), true)?;
+    let shared = shared.as_slice();
+    if shared == classes {
+        return restricted(alloc, keep, by, steps);
+    }
+    let projected = project(alloc, by, shared, steps)?;
+    restricted(alloc, keep, &projected, steps)
+}
+
+/// The assignments of `keep` that `by` holds too, where all classes of `by` are among those of `keep`.
+///
+/// It takes two probes per row of `keep`.
+pub fn restricted<L: Ledger>(
+    alloc: Global,
+    keep: &Relation,
+    by: &Relation,
+    steps: &mut Steps<L>,
+) -> Result<Relation, AllocError>
+    requires { All (Contains keep.now.classes) by.now.classes }
+    ensures classes { IfOk result (λ r. r.classes ≡ keep.now.classes) }
+    ensures rows { IfOk result (IsJoinOf keep.now by.now) }
+    ensures cost { steps.new ≤ steps.old + 2 * length keep.now.rows }
+{
+    let classes = keep.classes();
+    let wanted = by.classes();
+    let slots = slots_of(alloc, wanted)?;
+    let sources = sources_of(alloc, classes, &slots)?;
+    let other = by.table();
+    let kept = kept_rows(alloc, keep.table(), other, &sources, true, steps)?;
+    Ok(Relation::new(Vec::from_slice(alloc, classes)?, kept))
+}
+
+/// The classes as slots.
+fn slots_of(alloc: Global, classes: &[u32]) -> Result<Vec<Slot>, AllocError>
+    ensures { IfOk result (λ slots. slots.items ≡ map Slot.Class classes.now) }
+{
+    let mut slots = Vec::new(alloc);
+    for class in classes {
+        slots.push(Slot::Class(*class))?;
+    }
+    Ok(slots)
+}
+
+/// The classes that are among the others, or with `wanted` false those that are not, in their order.
+pub fn chosen_classes(
+    alloc: Global,
+    classes: &[u32],
+    others: &[u32],
+    wanted: bool,
+) -> Result<Vec<u32>, AllocError>
+    ensures { IfOk result (λ chosen. chosen.items ≡ classes_by wanted classes.now others.now) }
+{
+    let mut chosen = Vec::new(alloc);
+    for class in classes {
+        if is_as_wanted(wanted, has(others, *class)) {
+            chosen.push(*class)?;
+        }
+    }
+    Ok(chosen)
+}
+
+/// Whether the class is among these.
+pub fn has(classes: &[u32], class: u32) -> bool
+    ensures { result ≡ has_class classes.now class }
+{
+    classes.iter().any(|known| *known == class)
+}
