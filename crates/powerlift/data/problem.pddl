@@ -1,0 +1,2 @@
+(define (problem h) (:domain hop) (:objects a b c)
+ (:init (at a) (link a b) (link b c)) (:goal (at c)))
