@@ -50,6 +50,14 @@ abbrev pub IsSemijoinOf : ClassRows → ClassRows → ClassRows → Type 0
 IsSemijoinOf keep by kept =
     (f : Assignment) → Holds kept f ↔ (Holds keep f × ((g : Assignment) × Holds by g × AgreeOnShared keep by f g))
 
+-- the assignment is one of each relation's
+abbrev pub HoldsAll : List ClassRows → Assignment → Type 0
+HoldsAll relations f = All (λ relation. Holds relation f) relations
+
+-- the join of several relations: the assignments whose part on each relation's classes is in that relation
+abbrev pub IsJoinOfAll : List ClassRows → ClassRows → Type 0
+IsJoinOfAll relations joined = (f : Assignment) → Holds joined f ↔ HoldsAll relations f
+
 -- the value of a slot: a fixed one, or that of its class
 abbrev pub slot_value : Assignment → Slot → ℕ
 slot_value f (Fixed value) = value
