@@ -1,12 +1,12 @@
 -- Between the rows of a relation and the assignments that it holds.
-use Rattle.std.proofs.Common.{◌≡◌, ◌≢◌, ◌==◌, ◌<◌, ◌≤◌, ℕ, suc, cond, List, [], ◌∷◌, length, map, Contains, All, refl, sym, ◌∙◌, inl, inr, arith}
+use Rattle.std.proofs.Common.{◌≡◌, ◌≢◌, ◌↔◌, ◌==◌, ◌<◌, ◌≤◌, ℕ, suc, cond, List, [], ◌∷◌, length, map, Contains, All, refl, sym, ap, subst, ◌∙◌, inl, inr, arith}
 use Rattle.std.proofs.lemmas.Bool.Decides.{nat_tests, Decides-eqb}
 use Rattle.std.proofs.lemmas.List.Elements.{All-contains, All-weaker}
 use Rattle.std.proofs.lemmas.Map.Made.{IsDistinct-from_AllPairs}
 use Rattle.std.proofs.lemmas.Map.Steps.{length-le_from_distinct_below}
 use Rattle.std.proofs.lemmas.Map.Views.{Contains-from_any}
-use Rattle.pl_rows.proofs.Canonical.{Contains-nil, Contains-cons_cases, Contains-cons_first, Contains-cons_rest}
-use Rattle.pl_join.specs.Relation.{ClassRows, Assignment, AreDistinct, IsRelation, Agree}
+use Rattle.pl_rows.proofs.Canonical.{Contains-nil, Contains-cons_cases, Contains-cons_first, Contains-cons_rest, same_rows}
+use Rattle.pl_join.specs.Relation.{ClassRows, Assignment, AreDistinct, IsRelation, Holds, Agree}
 
 -- the assignment that a row gives to the classes
 abbrev pub value_of : List ℕ → List ℕ → Assignment
@@ -74,3 +74,18 @@ few_classes classes n d below =
 pub held_below : (classes wanted : List ℕ) (n : ℕ) → All (λ c. c < n) classes → All (Contains classes) wanted → All (λ c. c < n) wanted
 held_below classes wanted n below held =
     All-weaker (Contains classes) (λ c. c < n) (λ c h. All-contains (λ k. k < n) classes c below h) wanted held
+
+-- a row of a relation is one of another with the same classes that holds what it holds
+row_shared : (relation other : ClassRows) → IsRelation relation → relation.classes ≡ other.classes → ((f : Assignment) → Holds relation f → Holds other f) → (row : List ℕ) → Contains relation.rows row → Contains other.rows row
+row_shared relation other is e holds row h =
+    let f : Assignment = value_of relation.classes row in
+    let whole : map f relation.classes ≡ row = row_held relation is row h in
+    subst (Contains other.rows) (ap (map f) (sym e) ∙ whole) (holds f (subst (Contains relation.rows) (sym whole) h))
+
+-- relations with the same classes that hold the same assignments are the same
+pub same_relation : (relation other : ClassRows) → IsRelation relation → IsRelation other → relation.classes ≡ other.classes → ((f : Assignment) → Holds relation f ↔ Holds other f) → relation ≡ other
+same_relation relation other is are e holds =
+    let rows : relation.rows ≡ other.rows = same_rows relation.rows other.rows is.rows.ascending are.rows.ascending
+    (λ row. (row_shared relation other is e (λ f. (holds f).0) row, row_shared other relation are (sym e) (λ f. (holds f).1) row)) in
+    let of : List ℕ → List (List ℕ) → ClassRows = λ cs rs. record { classes = cs; rows = rs } in
+    ap (of relation.classes) rows ∙ ap (λ classes. of classes other.rows) e

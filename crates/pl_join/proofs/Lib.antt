@@ -6,3 +6,5 @@ pub mod Loops
 pub mod Operations
 pub mod Gathering
 pub mod Joining
+pub mod Selecting
+pub mod Repeats

@@ -1,20 +1,19 @@
 -- The steps of the loops that push rows one after another into a flat list.
-use Rattle.std.proofs.Common.{◌≡◌, ◌+◌, ◌*◌, ◌<◌, ◌≤◌, ◌≢◌, ◌↔◌, ◌==◌, ℕ, Bool, true, false, List, [], ◌∷◌, ◌++◌, length, map, filter, take, get_or, slice_get, Some, refl, sym, ap, ◌∙◌, subst, inl, inr, arith, Result, IfOk, IsTrue, Contains}
+use Rattle.std.proofs.Common.{◌≡◌, ◌+◌, ◌*◌, ◌<◌, ◌≤◌, ◌≢◌, ◌↔◌, ◌==◌, ℕ, Bool, true, false, List, [], ◌∷◌, ◌++◌, length, map, filter, take, drop, get_or, slice_get, Some, refl, sym, ap, ◌∙◌, subst, arith, Result, IfOk, IsTrue, Contains}
 use Rattle.std.specs.Bool.{Decides}
 use Rattle.std.proofs.lemmas.Bool.Decides.{Decides-eqb, Decides-not, same_from_decides}
-use Rattle.std.specs.Str.{bytes_eq}
-use Rattle.std.proofs.lemmas.Bool.{cases_Bool}
-use Rattle.std.proofs.lemmas.Slice.Eq.{bytes_eq-Decides}
-use Rattle.std.proofs.lemmas.List.{map_more, map_push, take_more, get_or-map, take_all, length-append, append-nil}
-use Rattle.std.proofs.lemmas.List.Elements.{filter_more}
+use Rattle.std.proofs.lemmas.List.{map_more, map_push, take_more, take_all, length-append, append-nil, take-append-drop, length-take-le, length-drop}
+use Rattle.std.proofs.lemmas.List.Elements.{filter_more, filter-append, All-filter}
+use Rattle.std.proofs.lemmas.List.Kept.{IsStrictlySortedBy-filter}
+use Rattle.std.proofs.lemmas.List.Sums.{length-filter, count_by-le-length}
 use Rattle.std.proofs.lemmas.Option.{slice_get_within, get_or_from_slice_get}
 use Rattle.std.specs.declared.alloc.AllocError.{AllocError}
-use Rattle.pl_rows.specs.Rows.{Rows, SameRows, rows_of}
+use Rattle.pl_rows.specs.Rows.{Rows, AreRows, SameRows, rows_of, row_cmp}
 use Rattle.pl_rows.proofs.Places.{rows_of-push}
 use Rattle.pl_join.specs.declared.slot.Slot.{Slot}
 use Rattle.pl_join.specs.declared.source.Source.{Source}
 use Rattle.pl_join.specs.Relation.{Assignment, slot_value}
-use Rattle.pl_join.specs.Source.{value_at, picked, fits_slots, looked_at, differ, has_row, is_wanted, is_kept}
+use Rattle.pl_join.specs.Source.{value_at, looked_at, differ, has_row, is_wanted, is_kept}
 use Rattle.pl_join.proofs.Members.{has_row-Contains}
 
 -- a row more in the flat list
@@ -64,11 +63,48 @@ no_difference a b row x y e f s =
     rw same refl
 
 -- what a look-up says of a row
-pub kept_is : (wanted : Bool) (others : List (List ℕ)) (sources : List Source) (row values : List ℕ) (found answer b : Bool) → values ≡ looked_at sources row → IsTrue found ↔ Contains others values → answer ≡ is_wanted wanted found → answer ≡ b → is_kept wanted others sources row ≡ b
-kept_is wanted others sources row values found answer b e h a t =
+pub kept_is : (wanted : Bool) (others : List (List ℕ)) (sources : List Source) (row values : List ℕ) (found answer : Bool) → values ≡ looked_at sources row → IsTrue found ↔ Contains others values → answer ≡ is_wanted wanted found → answer ≡ is_kept wanted others sources row
+kept_is wanted others sources row values found answer e h a =
     let here : Decides found (Contains others (looked_at sources row)) = subst (λ v. Decides found (Contains others v)) e h in
     let same : has_row others (looked_at sources row) ≡ found = same_from_decides _ _ (has_row-Contains others (looked_at sources row)) here in
-    ap (is_wanted wanted) same ∙ sym a ∙ t
+    a ∙ sym (ap (is_wanted wanted) same)
+
+-- behind rows that are all kept, one that is kept too, and one that is not
+pub all_kept_more : (p : List ℕ → Bool) (i : ℕ) (rows : List (List ℕ)) (row : List ℕ) → slice_get rows i ≡ Some row → p row ≡ true → filter p (take i rows) ≡ take i rows → filter p (take (i + 1) rows) ≡ take (i + 1) rows
+all_kept_more p i rows row at passes so_far =
+    let within : i < length rows = slice_get_within rows i row at in
+    let here : get_or rows i row ≡ row = get_or_from_slice_get rows i row row at in
+    let step : filter p (take (i + 1) rows) ≡ filter p (take i rows) ++ row ∷ [] = filter_more p rows i row within ∙ rw (here, passes) refl in
+    step ∙ ap (λ r. r ++ row ∷ []) so_far ∙ sym (take_more rows i row within ∙ ap (λ r. take i rows ++ r ∷ []) here)
+
+pub left_out_first : (p : List ℕ → Bool) (i : ℕ) (rows : List (List ℕ)) (row : List ℕ) → slice_get rows i ≡ Some row → p row ≡ false → filter p (take i rows) ≡ take i rows → filter p (take (i + 1) rows) ≡ take i rows
+left_out_first p i rows row at fails so_far = left_out p i rows row at fails ∙ so_far
+
+-- where a row is left out, fewer are kept
+pub fewer_kept : (p : List ℕ → Bool) (i : ℕ) (rows : List (List ℕ)) → i < length rows → filter p (take (i + 1) rows) ≡ take i rows → length (filter p rows) < length rows
+fewer_kept p i rows l front =
+    let parts : filter p rows ≡ take i rows ++ filter p (drop (i + 1) rows) =
+    ap (filter p) (sym (take-append-drop (i + 1) rows)) ∙ filter-append p (take (i + 1) rows) (drop (i + 1) rows) ∙ ap (λ xs. xs ++ filter p (drop (i + 1) rows)) front in
+    omega (
+      arith,
+      ap length parts,
+      length-append (take i rows) (filter p (drop (i + 1) rows)),
+      length-take-le i rows (omega arith),
+      length-filter p (drop (i + 1) rows),
+      count_by-le-length p (drop (i + 1) rows),
+      length-drop (i + 1) rows,
+    )
+
+-- the rows of a table that are kept are the rows of a table
+pub are_rows-filter : (p : List ℕ → Bool) (arity : ℕ) (rows : List (List ℕ)) → AreRows arity rows → AreRows arity (filter p rows)
+are_rows-filter p arity rows are = record {
+  width = All-filter p (λ row. length row ≡ arity) rows are.width;
+  ascending = IsStrictlySortedBy-filter row_cmp p rows are.ascending;
+}
+
+-- equal lists have the same set of rows
+pub same_rows : (xs ys : List (List ℕ)) → xs ≡ ys → SameRows xs ys
+same_rows xs ys e row = rw e (λ h. h, λ h. h)
 
 -- one slot's source more
 pub sources_more : (classes : List ℕ) (sources : List Source) (slots : List Slot) (i : ℕ) (source : Source) (d : Slot) (f : Assignment) → i < length slots → looked_at sources (map f classes) ≡ map (slot_value f) (take i slots) → value_at (map f classes) source ≡ slot_value f (get_or slots i d) → looked_at (sources ++ source ∷ []) (map f classes) ≡ map (slot_value f) (take (i + 1) slots)
@@ -86,29 +122,12 @@ kept_mapped_more F p arity count i rows flat row at whole wide passes so_far =
     let step : filter p (take (i + 1) rows) ≡ filter p (take i rows) ++ row ∷ [] = filter_more p rows i row within ∙ rw (here, passes) refl in
     rows_of-push arity count flat (F row) whole wide ∙ ap (λ r. r ++ F row ∷ []) so_far ∙ sym (ap (map F) step ∙ map_push F (filter p (take i rows)) row)
 
--- the first values of a row are what the sources give, one more, not one, and all
+-- the first values of a row are what the sources give, one more
 pub fits_more : (row values : List ℕ) (sources : List Source) (i : ℕ) (d : Source) → i < length row → i < length sources → take i row ≡ looked_at (take i sources) values → get_or row i 0 ≡ value_at values (get_or sources i d) → take (i + 1) row ≡ looked_at (take (i + 1) sources) values
 fits_more row values sources i d l m so_far here =
     take_more row i 0 l ∙ ap (λ front. front ++ get_or row i 0 ∷ []) so_far
     ∙ ap (λ value. looked_at (take i sources) values ++ value ∷ []) here
     ∙ sym (map_more (value_at values) sources i d m)
-
-pub fits_not : (row values : List ℕ) (sources : List Source) (i : ℕ) (d : Source) → i < length sources → get_or row i 0 ≢ value_at values (get_or sources i d) → bytes_eq row (looked_at sources values) ≡ false
-fits_not row values sources i d m apart = elim (cases_Bool (bytes_eq row (looked_at sources values))) [
-  | inr n ↦ n
-  | inl y ↦ (
-      let same : row ≡ looked_at sources values = (bytes_eq-Decides row (looked_at sources values)).0 y in
-      absurd (apart (ap (λ r. get_or r i 0) same ∙ get_or-map (value_at values) sources i d 0 m)))
-]
-
-pub fits_all : (row values : List ℕ) (sources : List Source) (i : ℕ) → length row ≤ i → length sources ≤ i → take i row ≡ looked_at (take i sources) values → bytes_eq row (looked_at sources values) ≡ true
-fits_all row values sources i l m so_far =
-    (bytes_eq-Decides row (looked_at sources values)).1
-    (sym (take_all i row l) ∙ so_far ∙ ap (λ s. looked_at s values) (take_all i sources m))
-
--- what the test for the slots says of a row
-pub fits_is : (sources : List Source) (columns row values : List ℕ) (answer b : Bool) → values ≡ picked columns row → answer ≡ bytes_eq row (looked_at sources values) → answer ≡ b → fits_slots sources columns row ≡ b
-fits_is sources columns row values answer b e a t = ap (λ v. bytes_eq row (looked_at sources v)) (sym e) ∙ sym a ∙ t
 
 -- the number at i passes or doesn't
 pub number_kept : (p : ℕ → Bool) (xs chosen : List ℕ) (i : ℕ) → i < length xs → p (get_or xs i 0) ≡ true → chosen ≡ filter p (take i xs) → chosen ++ get_or xs i 0 ∷ [] ≡ filter p (take (i + 1) xs)

@@ -1,5 +1,5 @@
 -- Which assignments a relation holds whose rows are picked or kept from those of another.
-use Rattle.std.proofs.Common.{◌≡◌, ◌≢◌, ◌↔◌, ◌==◌, ℕ, Bool, true, false, not, List, [], ◌∷◌, length, map, filter, Contains, All, refl, sym, ap, ◌∙◌, subst, inl, inr, arith}
+use Rattle.std.proofs.Common.{◌≡◌, ◌≢◌, ◌↔◌, ◌==◌, ℕ, Bool, true, false, not, List, [], ◌∷◌, length, map, filter, Contains, All, refl, sym, ap, ◌∙◌, subst, inl, inr, arith, Option, None, Some, IfNone}
 use Rattle.std.proofs.lemmas.Bool.{cases_Bool}
 use Rattle.std.proofs.lemmas.Bool.Decides.{Decides-eqb, Decides-not}
 use Rattle.pl_rows.specs.Rows.{Rows, SameRows}
@@ -11,6 +11,7 @@ use Rattle.pl_join.specs.declared.slot.Slot.TheVariants.{Class}
 use Rattle.pl_join.specs.Relation.{IsSelectionOf, IsSlotOver, IsJoinOf, IsSemijoinOf, AgreeOnShared, has_class, ClassRows, Assignment, IsRelation, Holds, Agree, IsProjectionOf, AreUnequalOf, AreAbsentOf, slot_value}
 use Rattle.pl_join.specs.Source.{fits_slots, is_wanted, classes_by, value_at, picked, looked_at, differ, is_kept}
 use Rattle.pl_join.proofs.Assignments.{value_of, map_agree, agree_map, row_held}
+use Rattle.pl_join.proofs.Loops.{same_rows}
 use Rattle.pl_join.proofs.Members.{Contains-map, Contains-from_map, Contains-filter, Contains-from_filter, has_row-Contains, has_class-Contains}
 
 -- the rows of some columns are the projection onto the classes of these columns
@@ -78,9 +79,9 @@ pub unequal_made : (relation result : ClassRows) (held items : List ℕ) (table 
 unequal_made relation result held items table made a b first second eh et at_first at_second same ei er =
     rw (er, ei, eh) (unequal relation made.rows a b first second (rw eh at at_first) (rw eh at at_second) (rw et at same))
 
-pub absent_made : (relation result : ClassRows) (held items : List ℕ) (table made : Rows) (others : List (List ℕ)) (slots : List Slot) (sources given : List Source) → held ≡ relation.classes → table ≡ record { arity = length relation.classes; rows = relation.rows } → ((f : Assignment) → looked_at sources (map f held) ≡ map (slot_value f) slots) → given ≡ sources → SameRows made.rows (filter (is_kept false others given) table.rows) → items ≡ held → result ≡ record { classes = items; rows = made.rows } → AreAbsentOf relation others slots result
+pub absent_made : (relation result : ClassRows) (held items : List ℕ) (table made : Rows) (others : List (List ℕ)) (slots : List Slot) (sources given : List Source) → held ≡ relation.classes → table ≡ record { arity = length relation.classes; rows = relation.rows } → ((f : Assignment) → looked_at sources (map f held) ≡ map (slot_value f) slots) → given ≡ sources → made.rows ≡ filter (is_kept false others given) table.rows → items ≡ held → result ≡ record { classes = items; rows = made.rows } → AreAbsentOf relation others slots result
 absent_made relation result held items table made others slots sources given eh et values eg same ei er =
-    rw (er, ei, eh) (absent relation made.rows others slots sources (rw eh at values) (rw (eg, et) at same))
+    rw (er, ei, eh) (absent relation made.rows others slots sources (rw eh at values) (same_rows _ _ (rw (eg, et) at same)))
 
 -- the rows that fit the slots, by the values of the classes, are the selection
 pub selected : (rows : List (List ℕ)) (slots : List Slot) (classes columns : List ℕ) (sources : List Source) (out : List (List ℕ)) → ((f : Assignment) → picked columns (map (slot_value f) slots) ≡ map f classes) → ((f : Assignment) → looked_at sources (map f classes) ≡ map (slot_value f) slots) → SameRows out (map (picked columns) (filter (fits_slots sources columns) rows)) → IsSelectionOf rows slots (record { classes = classes; rows = out })
@@ -128,11 +129,17 @@ restricted_to keep by rows sources values same f =
       λ (held, in_by). back (held, has (subst (Contains by.rows) (sym key) in_by)),
     )
 
-pub restricted_made : (keep by result : ClassRows) (classes wanted items : List ℕ) (table other made : Rows) (slots given_slots : List Slot) (sources given : List Source) → classes ≡ keep.classes → wanted ≡ by.classes → slots ≡ map Class wanted → given_slots ≡ slots → table ≡ record { arity = length keep.classes; rows = keep.rows } → other ≡ record { arity = length by.classes; rows = by.rows } → ((f : Assignment) → looked_at sources (map f classes) ≡ map (slot_value f) given_slots) → given ≡ sources → SameRows made.rows (filter (is_kept true other.rows given) table.rows) → items ≡ classes → result ≡ record { classes = items; rows = made.rows } → IsJoinOf keep by result
-restricted_made keep by result classes wanted items table other made slots given_slots sources given ec ew es egs et eo values eg same ei er =
+-- the same of what the calls give, where a row is left out and where none is
+pub reduced_made : (keep by result : ClassRows) (classes wanted items : List ℕ) (table other made : Rows) (slots given_slots : List Slot) (sources given : List Source) → classes ≡ keep.classes → wanted ≡ by.classes → slots ≡ map Class wanted → given_slots ≡ slots → table ≡ record { arity = length keep.classes; rows = keep.rows } → other ≡ record { arity = length by.classes; rows = by.rows } → ((f : Assignment) → looked_at sources (map f classes) ≡ map (slot_value f) given_slots) → given ≡ sources → made.rows ≡ filter (is_kept true other.rows given) table.rows → items ≡ classes → result ≡ record { classes = items; rows = made.rows } → IsJoinOf keep by result
+reduced_made keep by result classes wanted items table other made slots given_slots sources given ec ew es egs et eo values eg same ei er =
     rw (er, ei, ec) (restricted_to keep by made.rows sources
     (λ f. ap (λ held. looked_at sources (map f held)) (sym ec) ∙ values f ∙ ap (map (slot_value f)) (egs ∙ es) ∙ slots_values wanted f ∙ ap (map f) ew)
-    (rw (eg, eo, et) at same))
+    (same_rows _ _ (rw (eg, eo, et) at same)))
+
+pub kept_whole : (keep by : ClassRows) (classes wanted : List ℕ) (table other : Rows) (slots given_slots : List Slot) (sources given : List Source) → classes ≡ keep.classes → wanted ≡ by.classes → slots ≡ map Class wanted → given_slots ≡ slots → table ≡ record { arity = length keep.classes; rows = keep.rows } → other ≡ record { arity = length by.classes; rows = by.rows } → ((f : Assignment) → looked_at sources (map f classes) ≡ map (slot_value f) given_slots) → given ≡ sources → filter (is_kept true other.rows given) table.rows ≡ table.rows → IsJoinOf keep by keep
+kept_whole keep by classes wanted table other slots given_slots sources given ec ew es egs et eo values eg same =
+    reduced_made keep by keep classes wanted classes table other table slots given_slots sources given ec ew es egs et eo values eg (sym same) refl
+    (rw (ec, et) refl)
 
 -- what is shared stands in both
 pub Contains-shared : (classes others : List ℕ) (c : ℕ) → Contains (classes_by true classes others) c ↔ (Contains classes c × Contains others c)
@@ -186,3 +193,8 @@ chosen_is wanted classes others given given_others items slice ec eo ei es = es 
 -- a slot that is a class among these is over them
 pub slot_over : (classes : List ℕ) (slot : Slot) (c : ℕ) → slot ≡ Class c → Contains classes c → IsSlotOver classes slot
 slot_over classes slot c is held k e = let same : c ≡ k = cc in subst (Contains classes) same held
+
+-- what is known where there is no value, and what follows from it
+pub none_weaker : {T P Q : Type 0} (o : Option T) → (P → Q) → IfNone o P → IfNone o Q
+none_weaker None f h = f h
+none_weaker (Some x) f h = h

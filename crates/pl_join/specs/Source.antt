@@ -1,6 +1,6 @@
 -- Where the values of slots and classes stand in a row, and which rows are picked and kept by them.
 use Rattle.std.specs.Prelude.{◌≡◌, ◌↔◌, ◌<◌, ◌==◌, ◌++◌, ℕ, Bool, cond, not, List, length, drop, map, filter, All, Contains, slice_index}
-use Rattle.std.specs.List.{AllPairs, list_any}
+use Rattle.std.specs.List.{AllPairs, list_any, list_all}
 use Rattle.std.specs.Str.{bytes_eq}
 use Rattle.pl_rows.specs.Rows.{Rows, AreRows, begins_with}
 use Rattle.pl_join.specs.declared.slot.Slot.{Slot}
@@ -8,6 +8,7 @@ use Rattle.pl_join.specs.declared.slot.Slot.TheVariants.{Class}
 use Rattle.pl_join.specs.Relation.{Assignment, AreDistinct, slot_value, has_class}
 use Rattle.pl_join.specs.declared.source.Source.{Source}
 use Rattle.pl_join.specs.declared.source.Source.TheVariants.{Fixed, Column}
+use Rattle.pl_join.specs.declared.selection.Test.{Test}
 
 -- the value that a source has in a row
 abbrev pub value_at : List ℕ → Source → ℕ
@@ -45,6 +46,23 @@ is_kept wanted rows sources row = is_wanted wanted (has_row rows (looked_at sour
 -- whether the values of the columns, put where the sources say, are the row itself
 abbrev pub fits_slots : List Source → List ℕ → List ℕ → Bool
 fits_slots sources columns row = bytes_eq row (looked_at sources (picked columns row))
+
+-- these are all columns of rows of a width, in their order
+abbrev pub AreAll : List ℕ → ℕ → Type 0
+AreAll columns arity = (length columns ≡ arity) × ((column : ℕ) → column < arity → slice_index columns column ≡ column)
+
+-- whether the row has a test's value in its column
+abbrev pub passes : List ℕ → Test → Bool
+passes row test = slice_index row test.column == value_at row test.source
+
+-- whether the row passes all tests
+abbrev pub passes_all : List Test → List ℕ → Bool
+passes_all tests row = list_all (passes row) tests
+
+-- a test of rows with so many columns
+pub record IsTestOf (arity : ℕ) (test : Test) : Type 0 where
+  pub column : test.column < arity
+  pub source : IsWithin arity test.source
 
 -- what the fields of a relation keep: distinct classes below 64, and a table with one column for each of them
 pub record IsKept (classes : List ℕ) (table : Rows) : Type 0 where

@@ -1,13 +1,13 @@
 //! The filters of a relation: by two slots with different values, and by slots whose row a table doesn't have.
 
-ghost use Rattle.std.specs.Prelude.{◌≡◌, ◌+◌, ◌*◌, ◌<◌, ◌≤◌, ◌^◌, ℕ, Bool, length, map, filter, All, Contains, IfOk, OnOk};
+ghost use Rattle.std.specs.Prelude.{◌≡◌, ◌+◌, ◌*◌, ◌<◌, ◌≤◌, ◌^◌, ℕ, Bool, length, take, min, map, filter, All, Contains, IfOk, IfSome, IfNone, OnOk};
 ghost use Rattle.pl_rows.specs.Rows.{AreRows, SameRows, rows_of};
 ghost use Rattle.pl_join.specs.Relation.{IsSlotOver, AreUnequalOf, AreAbsentOf};
 ghost use Rattle.pl_join.specs.Source.{IsWithin, differ, is_wanted, is_kept};
 
 use crate::relation::Relation;
 use crate::slot::Slot;
-use crate::source::{Source, look_at, source_of, sources_of, value_in};
+use crate::source::{Source, append, look_at, source_of, sources_of, value_in};
 use pl_rows::Table;
 use pl_steps::Steps;
 use std::alloc::{AllocError, Global};
@@ -78,7 +78,7 @@ fn unequal_rows<L: Ledger>(
     for i in 0..table.len() {
         let row = table.row(i, steps);
         if value_in(row, a) != value_in(row, b) {
-            flat.extend_from_slice(row)?;
+            append(&mut flat, row)?;
             count += 1;
         }
     }
@@ -86,7 +86,7 @@ fn unequal_rows<L: Ledger>(
 }
 
 /// The rows in which the values of the sources are a row of the other table, or with `wanted` false are none.
-pub fn kept_rows<L: Ledger>(
+fn kept_rows<L: Ledger>(
     alloc: Global,
     table: &Table,
     other: &Table,
@@ -98,22 +98,96 @@ pub fn kept_rows<L: Ledger>(
     requires arity { length sources.now ≡ other.now.arity }
     ensures arity { IfOk result (λ t. t.arity ≡ table.now.arity) }
     ensures rows { IfOk result (λ t. AreRows table.now.arity t.rows) }
-    ensures same { IfOk result (λ t. SameRows t.rows (filter (is_kept wanted other.now.rows sources.now) table.now.rows)) }
+    ensures kept { IfOk result (λ t. t.rows ≡ filter (is_kept wanted other.now.rows sources.now) table.now.rows) }
     ensures cost { steps.new ≤ steps.old + 2 * length table.now.rows }
 {
-    let mut flat = Vec::new(alloc);
-    let mut count = 0;
+    match fewer_rows(alloc, table, other, sources, wanted, steps)? {
+        Some(kept) => Ok(kept),
+        None => table.copied(alloc),
+    }
+}
+
+/// The same where some row is left out; None where all rows are kept, and then nothing is copied.
+///
+/// It takes at most two probes per row, and sorts nothing.
+pub fn fewer_rows<L: Ledger>(
+    alloc: Global,
+    table: &Table,
+    other: &Table,
+    sources: &[Source],
+    wanted: bool,
+    steps: &mut Steps<L>,
+) -> Result<Option<Table>, AllocError>
+    requires within { All (IsWithin table.now.arity) sources.now }
+    requires arity { length sources.now ≡ other.now.arity }
+    ensures all { IfOk result (λ r. IfNone r (filter (is_kept wanted other.now.rows sources.now) table.now.rows ≡ table.now.rows)) }
+    ensures arity { IfOk result (λ r. IfSome r (λ t. t.arity ≡ table.now.arity)) }
+    ensures rows { IfOk result (λ r. IfSome r (λ t. AreRows table.now.arity t.rows)) }
+    ensures kept { IfOk result (λ r. IfSome r (λ t. t.rows ≡ filter (is_kept wanted other.now.rows sources.now) table.now.rows)) }
+    ensures fewer { IfOk result (λ r. IfSome r (λ t. length t.rows < length table.now.rows)) }
+    ensures cost { steps.new ≤ steps.old + 2 * length table.now.rows }
+{
     let mut values = vec![in alloc; 0; sources.len()]?;
     let values = values.as_mut_slice();
-    for i in 0..table.len() {
+    let first = first_left_out(table, other, sources, wanted, values, steps);
+    if first == table.len() {
+        return Ok(None);
+    }
+    let mut flat = table.first_rows(alloc, first)?;
+    let mut count = first;
+    for i in first + 1..table.len() {
         let row = table.row(i, steps);
-        look_at(values, row, sources);
-        if is_as_wanted(wanted, other.has(values, steps)) {
-            flat.extend_from_slice(row)?;
+        if keeps(row, other, sources, wanted, values, steps) {
+            append(&mut flat, row)?;
             count += 1;
         }
     }
-    Table::from_rows(alloc, table.arity(), count, flat)
+    Ok(Some(Table::from_ascending(table.arity(), count, flat)))
+}
+
+/// The place of the first row that is not kept, or how many rows there are.
+fn first_left_out<L: Ledger>(
+    table: &Table,
+    other: &Table,
+    sources: &[Source],
+    wanted: bool,
+    values: &mut [u32],
+    steps: &mut Steps<L>,
+) -> usize
+    requires within { All (IsWithin table.now.arity) sources.now }
+    requires arity { length sources.now ≡ other.now.arity }
+    requires values { length values.old ≡ length sources.now }
+    ensures within { result ≤ length table.now.rows }
+    ensures kept { filter (is_kept wanted other.now.rows sources.now) (take (result + 1) table.now.rows) ≡ take result table.now.rows }
+    ensures cost { steps.new ≡ steps.old + 2 * min (result + 1) (length table.now.rows) }
+{
+    for i in 0..table.len() {
+        let row = table.row(i, steps);
+        if !keeps(row, other, sources, wanted, values, steps) {
+            return i;
+        }
+    }
+    table.len()
+}
+
+/// Whether the row is kept, by one probe. `values` is room for the values of the sources.
+#[inline]
+fn keeps<L: Ledger>(
+    row: &[u32],
+    other: &Table,
+    sources: &[Source],
+    wanted: bool,
+    values: &mut [u32],
+    steps: &mut Steps<L>,
+) -> bool
+    requires within { All (IsWithin (length row.now)) sources.now }
+    requires arity { length sources.now ≡ other.now.arity }
+    requires values { length values.old ≡ length sources.now }
+    ensures kept { result ≡ is_kept wanted other.now.rows sources.now row.now }
+    ensures cost { steps.new ≡ steps.old + 1 }
+{
+    look_at(values, row, sources);
+    is_as_wanted(wanted, other.has(values, steps))
 }
 
 /// Whether what was found is what was wanted.

@@ -9,7 +9,7 @@ ghost use Rattle.pl_join.specs.Source.{glued, joined_with};
 use crate::projection::project;
 use crate::relation::Relation;
 use crate::semijoins::{chosen_classes, restricted};
-use crate::source::{columns_of, pick};
+use crate::source::{append, columns_of, pick};
 use pl_rows::{Indexed, Range, Table};
 use pl_steps::Steps;
 use std::alloc::{AllocError, Global};
@@ -124,9 +124,9 @@ fn append_matches<L: Ledger>(
         ≡ flat.old.items ++ concat (map (glued width row.now) (slice_range table.now.rows range.from range.to))) }
 {
     for place in range.from..range.to {
-        flat.extend_from_slice(row)?;
+        append(flat, row)?;
         let other = table.row(place, steps);
-        flat.extend_from_slice(&other[width..])?;
+        append(flat, &other[width..])?;
     }
     Ok(())
 }

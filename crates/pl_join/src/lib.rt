@@ -6,6 +6,7 @@
 
 mod filters;
 mod joins;
+pub mod laws;
 mod projection;
 mod relation;
 mod selection;
@@ -20,5 +21,5 @@ pub use joins::hash_join;
 pub use projection::project;
 pub use relation::Relation;
 pub use selection::select;
-pub use semijoins::semijoin;
+pub use semijoins::{reduction, semijoin};
 pub use slot::Slot;

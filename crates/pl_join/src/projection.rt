@@ -1,12 +1,12 @@
 //! The projection of a relation onto some of its classes.
 
-ghost use Rattle.std.specs.Prelude.{◌≡◌, ◌+◌, ◌<◌, ◌≤◌, ◌^◌, ℕ, length, map, All, Contains, IfOk, OnOk};
+ghost use Rattle.std.specs.Prelude.{◌≡◌, ◌↔◌, ◌+◌, ◌-◌, ◌*◌, ◌<◌, ◌≤◌, ◌^◌, ◌++◌, ◌∷◌, [], ℕ, length, drop, map, All, Contains, IsTrue, IfOk, OnOk};
 ghost use Rattle.pl_rows.specs.Rows.{AreRows, SameRows, rows_of};
 ghost use Rattle.pl_join.specs.Relation.{AreDistinct, IsProjectionOf};
 ghost use Rattle.pl_join.specs.Source.{picked};
 
 use crate::relation::Relation;
-use crate::source::{columns_of, pick};
+use crate::source::{append, columns_of, pick};
 use pl_rows::Table;
 use pl_steps::Steps;
 use std::alloc::{AllocError, Global};
@@ -14,7 +14,8 @@ use std::sync::ledger::Ledger;
 
 /// The projection onto distinct classes of the relation, over these classes in the given order.
 ///
-/// It takes one probe per row. Rows that come out in order, all different, are not sorted.
+/// It takes at most one probe per row. A row that repeats the one before is left out at once, so that the rows of the first
+/// classes come out in order; other rows are sorted unless they do so too. Onto all classes in their order it is a copy.
 pub fn project<L: Ledger>(
     alloc: Global,
     relation: &Relation,
@@ -25,9 +26,13 @@ pub fn project<L: Ledger>(
     requires distinct { AreDistinct classes.now }
     ensures classes { IfOk result (λ r. r.classes ≡ classes.now) }
     ensures rows { IfOk result (IsProjectionOf relation.now) }
+    ensures most { IfOk result (λ r. length r.rows ≤ length relation.now.rows) }
     ensures cost { steps.new ≤ steps.old + length relation.now.rows }
 {
     let held = relation.classes();
+    if held == classes {
+        return relation.copied(alloc);
+    }
     let columns = columns_of(alloc, held, classes)?;
     let table = picked_rows(alloc, relation.table(), &columns, steps)?;
     Ok(Relation::new(Vec::from_slice(alloc, classes)?, table))
@@ -45,14 +50,42 @@ pub fn picked_rows<L: Ledger>(
     ensures arity { IfOk result (λ t. t.arity ≡ length columns.now) }
     ensures rows { IfOk result (λ t. AreRows (length columns.now) t.rows) }
     ensures same { IfOk result (λ t. SameRows t.rows (map (picked columns.now) table.now.rows)) }
+    ensures most { IfOk result (λ t. length t.rows ≤ length table.now.rows) }
     ensures cost { steps.new ≤ steps.old + length table.now.rows }
 {
     let mut flat = Vec::new(alloc);
+    let mut count = 0;
     let mut values = vec![in alloc; 0; columns.len()]?;
     let values = values.as_mut_slice();
     for i in 0..table.len() {
         pick(values, table.row(i, steps), columns);
-        flat.extend_from_slice(values)?;
+        count = append_new(&mut flat, count, values)?;
     }
-    Table::from_rows(alloc, columns.len() as u32, table.len(), flat)
+    Table::from_rows(alloc, columns.len() as u32, count, flat)
+}
+
+/// Appends the row to `count` rows of its width, unless it is the last of them: how many rows there are then.
+#[inline]
+fn append_new(flat: &mut Vec<u32>, count: usize, row: &[u32]) -> Result<usize, AllocError>
+    requires whole { length flat.old.items ≡ length row.now * count }
+    requires few { count < usize.MAX }
+    ensures whole { IfOk result (λ n. length flat.new.items ≡ length row.now * n) }
+    ensures most { IfOk result (λ n. n ≤ count + 1) }
+    ensures rows { IfOk result (λ n. SameRows (rows_of (length row.now) n flat.new.items)
+        (rows_of (length row.now) count flat.old.items ++ row.now ∷ [])) }
+{
+    if 0 < count && ends_with(flat, row) {
+        return Ok(count);
+    }
+    append(flat, row)?;
+    Ok(count + 1)
+}
+
+/// Whether the last values are these.
+#[inline]
+fn ends_with(flat: &[u32], row: &[u32]) -> bool
+    requires { length row.now ≤ length flat.now }
+    ensures { IsTrue result ↔ (drop (length flat.now - length row.now) flat.now ≡ row.now) }
+{
+    &flat[flat.len() - row.len()..] == row
 }

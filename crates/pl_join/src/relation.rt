@@ -1,15 +1,17 @@
 //! A relation: what callers read.
 
-ghost use Rattle.std.specs.Prelude.{◌≡◌, ◌<◌, length, All};
+ghost use Rattle.std.specs.Prelude.{◌≡◌, ◌<◌, length, All, IfOk};
 ghost use Rattle.pl_rows.specs.Rows.{AreRows};
 ghost use Rattle.pl_join.specs.Relation.{AreDistinct, IsRelation};
 
 use pl_rows::Table;
+use std::alloc::{AllocError, Global};
 use std::marker::Model;
 
 /// A set of assignments of values to classes: distinct classes below 64, and a table with one column for each of them.
 ///
-/// Two relations with the same classes in the same order that hold the same assignments are the same.
+/// Two relations with the same classes in the same order that hold the same assignments are the same
+/// (`laws::one_relation_for_a_set`).
 #[derive(Drop)]
 pub struct Relation {
     classes: Vec<u32>,
@@ -55,8 +57,17 @@ impl Relation {
         &self.table
     }
 
+    /// A copy of the relation. It takes no probe. The only error is want of memory.
+    pub fn copied(&self, alloc: Global) -> Result<Relation, AllocError>
+        ensures { IfOk result (λ r. r ≡ self.now) }
+    {
+        let classes = Vec::from_slice(alloc, &self.classes)?;
+        let table = self.table.copied(alloc)?;
+        Ok(Relation { classes, table })
+    }
+
     /// The table, without the classes.
-    pub(crate) fn into_table(self) -> Table
+    pub fn into_table(self) -> Table
         ensures { result ≡ record { arity = length self.classes; rows = self.rows } }
     {
         self.table

@@ -1,14 +1,13 @@
 //! The selection of a table's rows by slots.
 
-ghost use Rattle.std.specs.Prelude.{◌≡◌, ◌↔◌, ◌+◌, ◌<◌, ◌≤◌, ◌^◌, ℕ, length, map, filter, slice_get, All, Some, IsTrue, Contains, IfOk, OnOk, IfSome, IfNone};
-ghost use Rattle.std.specs.Str.{bytes_eq};
+ghost use Rattle.std.specs.Prelude.{◌≡◌, ◌↔◌, ◌+◌, ◌<◌, ◌≤◌, ◌^◌, ℕ, List, length, map, filter, slice_get, All, Some, IsTrue, Contains, IfOk, OnOk, IfSome, IfNone};
 ghost use Rattle.pl_rows.specs.Rows.{AreRows, SameRows};
 ghost use Rattle.pl_join.specs.Relation.{AreClassesOf, IsSelectionOf, IsSlotBelow};
-ghost use Rattle.pl_join.specs.Source.{ArePlacesOf, IsGathered, IsWithin, picked, looked_at, fits_slots};
+ghost use Rattle.pl_join.specs.Source.{AreAll, ArePlacesOf, IsGathered, IsTestOf, IsWithin, value_at, picked, fits_slots, passes_all};
 
 use crate::relation::Relation;
 use crate::slot::Slot;
-use crate::source::{Source, pick, sources_of, value_in};
+use crate::source::{Source, append, pick, sources_of, value_in};
 use pl_rows::Table;
 use pl_steps::Steps;
 use std::alloc::{AllocError, Global};
@@ -20,7 +19,8 @@ const CLASSES: u32 = 64;
 /// The relation over the classes of the slots, by rising number, whose rows are the values for which the row of the slots
 /// is in the table. There is one slot for each column.
 ///
-/// It takes one probe per row. Where the slots are rising classes, the rows come out in order and are not sorted.
+/// It takes at most one probe per row. A row is compared only at fixed slots and where a class stands again. Where the
+/// slots are rising classes, the table is copied; other rows are sorted unless they come out in order.
 pub fn select<L: Ledger>(
     alloc: Global,
     table: &Table,
@@ -115,30 +115,117 @@ fn fitting_rows<L: Ledger>(
         (map (picked columns.now) (filter (fits_slots sources.now columns.now) table.now.rows))) }
     ensures cost { steps.new ≤ steps.old + length table.now.rows }
 {
+    let tests = tests_of(alloc, columns, sources)?;
+    if tests.is_empty() && are_all(columns, table.arity() as usize) {
+        return table.copied(alloc);
+    }
+    passing_rows(alloc, table, columns, &tests, steps)
+}
+
+/// A column of a row, and where its value has to stand too.
+#[derive(Clone, Copy)]
+pub struct Test {
+    pub column: usize,
+    pub source: Source,
+}
+
+/// The tests that a row can fail: those of fixed values, and of columns that are not picked.
+fn tests_of(alloc: Global, columns: &[usize], sources: &[Source]) -> Result<Vec<Test>, AllocError>
+    requires columns { All (λ column. column < length sources.now) columns.now }
+    requires sources { All (IsWithin (length columns.now)) sources.now }
+    ensures within { IfOk result (λ tests. All (IsTestOf (length sources.now)) tests.items) }
+    ensures tests { IfOk result (λ tests. (row : List ℕ) → length row ≡ length sources.now →
+        passes_all tests.items row ≡ fits_slots sources.now columns.now row) }
+{
+    let mut tests = Vec::new(alloc);
+    for (column, source) in sources.iter().enumerate() {
+        let source = source_through(columns, *source);
+        if !is_column(source, column) {
+            tests.push(Test { column, source })?;
+        }
+    }
+    Ok(tests)
+}
+
+/// Where a source of the picked values stands in the row that they are picked from.
+fn source_through(columns: &[usize], source: Source) -> Source
+    requires { IsWithin (length columns.now) source }
+    ensures within { (arity : ℕ) → All (λ column. column < arity) columns.now → IsWithin arity result }
+    ensures value { (row : List ℕ) → value_at row result ≡ value_at (picked columns.now row) source }
+{
+    match source {
+        Source::Fixed(value) => Source::Fixed(value),
+        Source::Column(place) => Source::Column(columns[place]),
+    }
+}
+
+/// Whether the source is this column.
+fn is_column(source: Source, column: usize) -> bool
+    ensures { IsTrue result ↔ (source ≡ Source.Column column) }
+{
+    match source {
+        Source::Fixed(_) => false,
+        Source::Column(known) => known == column,
+    }
+}
+
+/// Whether these are all columns, in their order.
+fn are_all(columns: &[usize], arity: usize) -> bool
+    ensures { IsTrue result ↔ AreAll columns.now arity }
+{
+    if columns.len() != arity {
+        return false;
+    }
+    for (i, column) in columns.iter().enumerate() {
+        if *column != i {
+            return false;
+        }
+    }
+    true
+}
+
+/// The values in the columns, of the rows that pass the tests.
+fn passing_rows<L: Ledger>(
+    alloc: Global,
+    table: &Table,
+    columns: &[usize],
+    tests: &[Test],
+    steps: &mut Steps<L>,
+) -> Result<Table, AllocError>
+    requires columns { All (λ column. column < table.now.arity) columns.now }
+    requires tests { All (IsTestOf table.now.arity) tests.now }
+    requires few { length columns.now < 2 ^ 32 }
+    ensures arity { IfOk result (λ t. t.arity ≡ length columns.now) }
+    ensures rows { IfOk result (λ t. AreRows (length columns.now) t.rows) }
+    ensures same { IfOk result (λ t. SameRows t.rows
+        (map (picked columns.now) (filter (passes_all tests.now) table.now.rows))) }
+    ensures table { AreRows table.now.arity table.now.rows }
+    ensures cost { steps.new ≤ steps.old + length table.now.rows }
+{
+    let len = table.len();
     let mut flat = Vec::new(alloc);
     let mut count = 0;
     let mut values = vec![in alloc; 0; columns.len()]?;
     let values = values.as_mut_slice();
-    for i in 0..table.len() {
+    for i in 0..len {
         let row = table.row(i, steps);
-        pick(values, row, columns);
-        if fits(row, values, sources) {
-            flat.extend_from_slice(values)?;
+        if passes(row, tests) {
+            pick(values, row, columns);
+            append(&mut flat, values)?;
             count += 1;
         }
     }
     Table::from_rows(alloc, columns.len() as u32, count, flat)
 }
 
-/// Whether the row is what the sources give for the values.
+/// Whether the row passes all tests.
 #[inline]
-fn fits(row: &[u32], values: &[u32], sources: &[Source]) -> bool
-    requires arity { length sources.now ≡ length row.now }
-    requires within { All (IsWithin (length values.now)) sources.now }
-    ensures { result ≡ bytes_eq row.now (looked_at sources.now values.now) }
+fn passes(row: &[u32], tests: &[Test]) -> bool
+    requires { All (IsTestOf (length row.now)) tests.now }
+    ensures { result ≡ passes_all tests.now row.now }
 {
-    for (i, source) in sources.iter().enumerate() {
-        if row[i] != value_in(values, *source) {
+    for test in tests {
+        if row[test.column] != value_in(row, test.source) {
             return false;
         }
     }

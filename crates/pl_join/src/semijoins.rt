@@ -1,10 +1,10 @@
 //! The semijoin of two relations.
 
-ghost use Rattle.std.specs.Prelude.{◌≡◌, ◌+◌, ◌*◌, ◌<◌, ◌≤◌, ◌^◌, ℕ, length, map, filter, All, Contains, IfOk};
+ghost use Rattle.std.specs.Prelude.{◌≡◌, ◌+◌, ◌*◌, ◌<◌, ◌≤◌, ◌^◌, ℕ, length, map, filter, All, Contains, IfOk, IfSome, IfNone};
 ghost use Rattle.pl_join.specs.Relation.{IsJoinOf, IsSemijoinOf, has_class};
 ghost use Rattle.pl_join.specs.Source.{classes_by};
 
-use crate::filters::{is_as_wanted, kept_rows};
+use crate::filters::{fewer_rows, is_as_wanted};
 use crate::projection::project;
 use crate::relation::Relation;
 use crate::slot::Slot;
@@ -16,8 +16,7 @@ use std::sync::ledger::Ledger;
 /// The rows of `keep` that agree with at least one row of `by` on all shared classes, over the classes of `keep` in their
 /// order.
 ///
-/// It takes at most two probes per row of `keep` and one per row of `by`. The rows that are kept are not sorted. Those of
-/// `by` are projected onto the shared classes first, unless these are all that it has.
+/// It is `reduction`, with a copy of `keep` where every row is kept, and costs the same probes.
 pub fn semijoin<L: Ledger>(
     alloc: Global,
     keep: &Relation,
@@ -28,19 +27,42 @@ pub fn semijoin<L: Ledger>(
     ensures rows { IfOk result (IsSemijoinOf keep.now by.now) }
     ensures cost { steps.new ≤ steps.old + 2 * length keep.now.rows + length by.now.rows }
 {
+    match reduction(alloc, keep, by, steps)? {
+        Some(kept) => Ok(kept),
+        None => keep.copied(alloc),
+    }
+}
+
+/// The semijoin of `keep` by `by`, where it has fewer rows than `keep`; None where it has every row of `keep`, which is
+/// then not copied.
+///
+/// It takes at most two probes per row of `keep` and one per row of `by`. The rows that are kept are not sorted. Those of
+/// `by` are projected onto the shared classes first, unless these are all that it has.
+pub fn reduction<L: Ledger>(
+    alloc: Global,
+    keep: &Relation,
+    by: &Relation,
+    steps: &mut Steps<L>,
+) -> Result<Option<Relation>, AllocError>
+    ensures same { IfOk result (λ r. IfNone r (IsSemijoinOf keep.now by.now keep.now)) }
+    ensures classes { IfOk result (λ r. IfSome r (λ kept. kept.classes ≡ keep.now.classes)) }
+    ensures rows { IfOk result (λ r. IfSome r (IsSemijoinOf keep.now by.now)) }
+    ensures fewer { IfOk result (λ r. IfSome r (λ kept. length kept.rows < length keep.now.rows)) }
+    ensures cost { steps.new ≤ steps.old + 2 * length keep.now.rows + length by.now.rows }
+{
     let classes = by.classes();
     let shared = chosen_classes(alloc, classes, keep.classes(), true)?;
     let shared = shared.as_slice();
     if shared == classes {
-        return restricted(alloc, keep, by, steps);
+        return reduced(alloc, keep, by, steps);
     }
     let projected = project(alloc, by, shared, steps)?;
-    restricted(alloc, keep, &projected, steps)
+    reduced(alloc, keep, &projected, steps)
 }
 
 /// The assignments of `keep` that `by` holds too, where all classes of `by` are among those of `keep`.
 ///
-/// It takes two probes per row of `keep`.
+/// It takes at most two probes per row of `keep`.
 pub fn restricted<L: Ledger>(
     alloc: Global,
     keep: &Relation,
@@ -52,13 +74,35 @@ pub fn restricted<L: Ledger>(
     ensures rows { IfOk result (IsJoinOf keep.now by.now) }
     ensures cost { steps.new ≤ steps.old + 2 * length keep.now.rows }
 {
+    match reduced(alloc, keep, by, steps)? {
+        Some(kept) => Ok(kept),
+        None => keep.copied(alloc),
+    }
+}
+
+/// The same where it has fewer rows than `keep`; None where it has every row of `keep`.
+fn reduced<L: Ledger>(
+    alloc: Global,
+    keep: &Relation,
+    by: &Relation,
+    steps: &mut Steps<L>,
+) -> Result<Option<Relation>, AllocError>
+    requires { All (Contains keep.now.classes) by.now.classes }
+    ensures same { IfOk result (λ r. IfNone r (IsJoinOf keep.now by.now keep.now)) }
+    ensures classes { IfOk result (λ r. IfSome r (λ kept. kept.classes ≡ keep.now.classes)) }
+    ensures rows { IfOk result (λ r. IfSome r (IsJoinOf keep.now by.now)) }
+    ensures fewer { IfOk result (λ r. IfSome r (λ kept. length kept.rows < length keep.now.rows)) }
+    ensures cost { steps.new ≤ steps.old + 2 * length keep.now.rows }
+{
     let classes = keep.classes();
     let wanted = by.classes();
     let slots = slots_of(alloc, wanted)?;
     let sources = sources_of(alloc, classes, &slots)?;
     let other = by.table();
-    let kept = kept_rows(alloc, keep.table(), other, &sources, true, steps)?;
-    Ok(Relation::new(Vec::from_slice(alloc, classes)?, kept))
+    match fewer_rows(alloc, keep.table(), other, &sources, true, steps)? {
+        Some(kept) => Ok(Some(Relation::new(Vec::from_slice(alloc, classes)?, kept))),
+        None => Ok(None),
+    }
 }
 
 /// The classes as slots.

@@ -1,6 +1,6 @@
 //! Where the values of slots and classes stand in the rows of a relation.
 
-ghost use Rattle.std.specs.Prelude.{◌≡◌, ◌<◌, ◌^◌, ℕ, length, map, slice_index, All, Contains, IfOk, IfSome, IfNone, OnOk};
+ghost use Rattle.std.specs.Prelude.{◌≡◌, ◌<◌, ◌^◌, ◌++◌, ℕ, length, map, slice_index, All, Contains, IfOk, IfSome, IfNone, OnOk};
 ghost use Rattle.pl_join.specs.Relation.{slot_value, IsSlotOver};
 ghost use Rattle.pl_join.specs.Source.{value_at, IsWithin, picked, looked_at};
 
@@ -116,4 +116,15 @@ pub fn look_at(values: &mut [u32], row: &[u32], sources: &[Source])
     for (i, source) in sources.iter().enumerate() {
         values[i] = value_in(row, *source);
     }
+}
+
+/// Appends the values. For the few values of a row it is faster than `extend_from_slice`.
+#[inline]
+pub fn append(flat: &mut Vec<u32>, values: &[u32]) -> Result<(), AllocError>
+    ensures items { OnOk result (flat.new.items ≡ flat.old.items ++ values.now) }
+{
+    for value in values {
+        flat.push(*value)?;
+    }
+    Ok(())
 }

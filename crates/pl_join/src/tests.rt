@@ -4,7 +4,10 @@ ghost use Rattle.std.specs.Prelude.{◌≡◌, ◌<◌, All, Contains, IsTrue};
 ghost use Rattle.pl_join.specs.Relation.{AreDistinct, IsSlotOver, IsSlotBelow};
 
 use crate::semijoins::has;
-use crate::{Relation, Slot, filter_absent, filter_unequal, hash_join, project, select, semijoin};
+use crate::{
+    Relation, Slot, filter_absent, filter_unequal, hash_join, laws, project, reduction, select,
+    semijoin,
+};
 use Slot::{Class, Fixed};
 use pl_rows::Table;
 use pl_steps::Steps;
@@ -29,6 +32,8 @@ enum Call {
     Absent(Rows, &'static [Slot]),
     Project(&'static [u32]),
     Semijoin(Rows, &'static [Slot]),
+    Reduction(Rows, &'static [Slot]),
+    NoReduction(Rows, &'static [Slot]),
     Join(Rows, &'static [Slot]),
 }
 
@@ -153,6 +158,21 @@ const CASES: &[Case] = &[
         classes: &[7, 5, 6],
         rows: &[&[0, 1, 1], &[2, 0, 0], &[2, 0, 1], &[2, 2, 2]],
     },
+    // repeats that stand apart
+    Case {
+        from: TRIPLES,
+        slots: &[Class(5), Class(6), Class(7)],
+        call: Call::Project(&[7]),
+        classes: &[7],
+        rows: &[&[0], &[2]],
+    },
+    Case {
+        from: EDGES,
+        slots: &[Class(3), Class(4)],
+        call: Call::Project(&[3, 4]),
+        classes: &[3, 4],
+        rows: &[&[0, 1], &[1, 2], &[2, 0]],
+    },
     // no shared class, by the empty row and by none
     Case {
         from: PAIRS,
@@ -167,6 +187,42 @@ const CASES: &[Case] = &[
         call: Call::Semijoin(NONE, &[]),
         classes: &[1, 4],
         rows: &[],
+    },
+    Case {
+        from: PAIRS,
+        slots: &[Class(1), Class(4)],
+        call: Call::NoReduction(ONE, &[]),
+        classes: &[1, 4],
+        rows: &[&[0, 1], &[1, 0]],
+    },
+    Case {
+        from: PAIRS,
+        slots: &[Class(1), Class(4)],
+        call: Call::Reduction(NONE, &[]),
+        classes: &[1, 4],
+        rows: &[],
+    },
+    // the first row and the last one are dropped
+    Case {
+        from: EDGES,
+        slots: &[Class(0), Class(1)],
+        call: Call::Reduction(PAIRS, &[Class(0), Fixed(0)]),
+        classes: &[0, 1],
+        rows: &[&[1, 2]],
+    },
+    Case {
+        from: TRIPLES,
+        slots: &[Class(5), Class(6), Class(7)],
+        call: Call::Reduction(EDGES, &[Class(6), Fixed(2)]),
+        classes: &[5, 6, 7],
+        rows: &[&[0, 1, 2], &[1, 1, 0]],
+    },
+    Case {
+        from: PAIRS,
+        slots: &[Class(1), Class(4)],
+        call: Call::NoReduction(EDGES, &[Class(4), Class(9)]),
+        classes: &[1, 4],
+        rows: &[&[0, 1], &[1, 0]],
     },
     // two shared classes, in the other order
     Case {
@@ -358,6 +414,17 @@ fn called<L: Ledger>(
             None => Ok(None),
             Some(by) => Ok(Some(semijoin(alloc, &relation, &by, steps)?)),
         },
+        Call::Reduction(rows, slots) => match relation_of(alloc, rows, slots, steps)? {
+            None => Ok(None),
+            Some(by) => reduction(alloc, &relation, &by, steps),
+        },
+        Call::NoReduction(rows, slots) => match relation_of(alloc, rows, slots, steps)? {
+            None => Ok(None),
+            Some(by) => match reduction(alloc, &relation, &by, steps)? {
+                None => Ok(Some(relation)),
+                Some(_) => Ok(None),
+            },
+        },
         Call::Join(rows, slots) => match relation_of(alloc, rows, slots, steps)? {
             None => Ok(None),
             Some(right) => Ok(Some(hash_join(alloc, &relation, &right, steps)?)),
@@ -396,6 +463,7 @@ fn is_met<L: Ledger>(alloc: Global, case: &Case, blank: Blank) -> Result<bool, A
 
 #[test]
 fn calls_give_the_classes_and_rows_by_hand(rt: HostRuntime) -> Result<(), Fail> {
+    laws::one_relation_for_a_set();
     for (i, case) in CASES.iter().enumerate() {
         let met = is_met::<Brand>(rt.alloc(), case, Blank::new(1))?;
         assert!(rt; met, "case {i}");

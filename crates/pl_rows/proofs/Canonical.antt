@@ -1,12 +1,17 @@
 -- Two ascending lists with the same members are equal: an ascending list is a function of its set.
-use Rattle.std.proofs.Common.{◌≡◌, ◌↔◌, ℕ, zero, suc, List, [], ◌∷◌, refl, sym, ◌∙◌, subst, ◌⊎◌, inl, inr, Contains, arith}
+use Rattle.std.proofs.Common.{◌≡◌, ◌↔◌, ◌≤◌, ℕ, zero, suc, List, [], ◌∷◌, length, refl, sym, ◌∙◌, subst, ◌⊎◌, inl, inr, Contains, arith}
+use Rattle.std.specs.Bool.{Decides}
 use Rattle.std.specs.Cmp.{IsTotalOrder}
+use Rattle.std.specs.Cmp.Lexicographic.{texts_ties}
 use Rattle.std.specs.declared.cmp.Ordering.{Ordering}
 use Rattle.std.specs.declared.cmp.Ordering.TheVariants.{Less}
 use Rattle.std.specs.List.Sorted.{IsStrictlySortedBy}
-use Rattle.std.proofs.lemmas.Cmp.{tied_itself, nat_list_cmp_total}
+use Rattle.std.specs.Ordering.{eq_by_cmp}
+use Rattle.std.proofs.lemmas.Cmp.{tied_itself, nat_list_cmp_total, eq_by_cmp_equiv}
 use Rattle.std.proofs.lemmas.List.Elements.{All-contains}
-use Rattle.std.proofs.lemmas.Map.Keys.{sorted_tail}
+use Rattle.std.proofs.lemmas.Map.Keys.{sorted_tail, IsDistinct-from_sorted}
+use Rattle.std.proofs.lemmas.Map.Made.{length-le_from_is_member, is_member-Decides}
+use Rattle.std.proofs.lemmas.Slice.Eq.{bytes_eq-Decides}
 use Rattle.std.proofs.lemmas.Map.Views.{All-after_first}
 use Rattle.pl_rows.specs.Rows.{row_cmp, IsAscending, SameRows}
 
@@ -64,3 +69,12 @@ same_ascending R o (x ∷ xs) (y ∷ ys) s t same =
 -- two ascending lists with the same set of rows are equal
 pub same_rows : (xs ys : List (List ℕ)) → IsAscending xs → IsAscending ys → SameRows xs ys → xs ≡ ys
 same_rows xs ys s t same = same_ascending row_cmp nat_list_cmp_total xs ys s t same
+
+-- an ascending list is no longer than any that has its members
+pub length-le_ascending : (xs ys : List (List ℕ)) → IsAscending xs → SameRows xs ys → length xs ≤ length ys
+length-le_ascending xs ys s same =
+    length-le_from_is_member (eq_by_cmp_equiv nat_list_cmp_total) xs ys (IsDistinct-from_sorted row_cmp xs s)
+    (λ row h. (is_member-Decides equal ys row).1 ((same row).0 ((is_member-Decides equal xs row).0 h)))
+  where
+    equal : (a b : List ℕ) → Decides (eq_by_cmp row_cmp a b) (a ≡ b)
+    equal a b = rw (← texts_ties a b) (bytes_eq-Decides a b)

@@ -1,6 +1,6 @@
 -- Where the rows of a flat list lie.
-use Rattle.std.proofs.Common.{◌≡◌, ◌+◌, ◌*◌, ◌<◌, ◌≤◌, ℕ, zero, suc, List, [], ◌∷◌, ◌++◌, length, get_or, take, drop, refl, sym, ap, ◌∙◌, All, arith, slice_get, Some}
-use Rattle.std.proofs.lemmas.List.{drop-drop, length-take-le, length-drop, take_all, take-append-le, drop-append-le, nil_from_length, take-append-drop}
+use Rattle.std.proofs.Common.{◌≡◌, ◌+◌, ◌*◌, ◌<◌, ◌≤◌, ℕ, zero, suc, List, [], ◌∷◌, ◌++◌, length, get_or, take, drop, take-take, refl, sym, ap, ◌∙◌, All, arith, slice_get, Some}
+use Rattle.std.proofs.lemmas.List.{drop-drop, length-take-le, length-drop, drop-take, take_all, take-append-le, drop-append-le, nil_from_length, take-append-drop}
 use Rattle.std.proofs.lemmas.List.Elements.{All-nil, All-cons, All-head, All-tail, All-append, All-take, All-drop, All-contains, Contains-get_or}
 use Rattle.std.proofs.lemmas.Option.{slice_get-get_or}
 use Rattle.pl_rows.specs.Rows.{rows_of, SameRows}
@@ -60,3 +60,15 @@ pub values-same : (P : ℕ → Type 0) (k m n : ℕ) (new flat : List ℕ) → l
 values-same P k m n new flat h all same =
     values-flat P k m new h (λ i d l. All-contains (λ row. All P row) (rows_of k n flat) (get_or (rows_of k m new) i d)
     (values-rows_of P k n flat all) ((same (get_or (rows_of k m new) i d)).0 (Contains-get_or (rows_of k m new) i d l)))
+
+-- the first rows are those of the first values
+pub take-rows_of : (k m n : ℕ) (flat : List ℕ) → m ≤ n → length flat ≡ k * n → rows_of k m (take (k * m) flat) ≡ take m (rows_of k n flat)
+take-rows_of k zero n flat l h = refl
+take-rows_of k (suc m) zero flat l h = absurd (omega arith)
+take-rows_of k (suc m) (suc n) flat l h =
+    let part : k * suc m ≡ k + k * m = grind arith in
+    let whole : k * suc n ≡ k + k * n = grind arith in
+    let rest : rows_of k m (take (k * m) (drop k flat)) ≡ take m (rows_of k n (drop k flat)) = take-rows_of k m n (drop k flat) (omega arith) (omega (arith, length-drop k flat)) in
+    let first : take k (take (k + k * m) flat) ≡ take k flat = take-take k (k + k * m) flat (omega arith) in
+    let behind : drop k (take (k + k * m) flat) ≡ take (k * m) (drop k flat) = drop-take k (k * m) flat in
+    rw (part, first, behind, rest) refl

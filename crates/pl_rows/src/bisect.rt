@@ -1,6 +1,6 @@
 //! Rows in a flat slice: the row at a place, and bisection.
 
-ghost use Rattle.std.specs.Prelude.{◌≡◌, ◌↔◌, ◌*◌, ◌<◌, ◌≤◌, length, IsTrue, Contains, slice_get};
+ghost use Rattle.std.specs.Prelude.{◌≡◌, ◌↔◌, ◌*◌, ◌<◌, ◌≤◌, length, take, IsTrue, Contains, slice_get};
 ghost use Rattle.pl_rows.specs.Rows.{rows_of, IsAscending};
 ghost use Rattle.pl_rows.specs.Layout.{comes_before, IsNarrowed};
 
@@ -14,6 +14,16 @@ pub fn row_at(flat: &[u32], arity: usize, count: usize, i: usize) -> &[u32]
 {
     let from = i * arity;
     &flat[from..from + arity]
+}
+
+/// The first rows of those that lie in `flat`, `first` of them.
+pub fn first_rows_in(flat: &[u32], arity: usize, count: usize, first: usize) -> &[u32]
+    requires whole { length flat.now ≡ arity * count }
+    requires within { first ≤ count }
+    ensures whole { length result.now ≡ arity * first }
+    ensures rows { rows_of arity first result.now ≡ take first (rows_of arity count flat.now) }
+{
+    &flat[..arity * first]
 }
 
 /// How many rows have first values that are below the prefix, or with `or_equal` at most the prefix.

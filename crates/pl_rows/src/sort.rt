@@ -62,7 +62,8 @@ fn sorted_arrays<const N: usize>(
 {
     let (arrays, _) = flat.as_chunks::<N>();
     let mut rows: Vec<[u32; N]> = Vec::from_slice(alloc, arrays)?;
-    rows.sort_unstable();
+    // Mostly these are the columns of a table in another order. They come in runs, on which a merge sort is faster.
+    rows.sort()?;
     rows.dedup();
     let distinct = rows.as_slice();
     let flat = Vec::from_slice(alloc, distinct.as_flattened())?;

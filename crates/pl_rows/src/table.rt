@@ -1,10 +1,10 @@
 //! A table: what callers make, ask and read.
 
-ghost use Rattle.std.specs.Prelude.{◌≡◌, ◌↔◌, ◌+◌, ◌*◌, ◌<◌, ◌≤◌, ◌^◌, List, ℕ, length, count_by, IfOk, IsTrue, Contains, All, slice_get, vec_len};
-ghost use Rattle.pl_rows.specs.Rows.{rows_of, AreRows, SameRows, is_below, AreFirst};
+ghost use Rattle.std.specs.Prelude.{◌≡◌, ◌↔◌, ◌+◌, ◌*◌, ◌<◌, ◌≤◌, ◌^◌, List, ℕ, length, take, count_by, IfOk, IsTrue, Contains, All, slice_get, vec_len};
+ghost use Rattle.pl_rows.specs.Rows.{rows_of, AreRows, IsAscending, SameRows, is_below, AreFirst};
 ghost use Rattle.pl_rows.specs.Layout.{IsNarrowed, comes_before};
 
-use crate::bisect::{bisect, has_row, row_at};
+use crate::bisect::{bisect, first_rows_in, has_row, row_at};
 use crate::sort::{are_ascending, sorted_rows};
 use pl_steps::Steps;
 use std::alloc::{AllocError, Global};
@@ -48,6 +48,7 @@ impl Table {
         ensures arity { IfOk result (λ t. t.arity ≡ arity) }
         ensures rows { IfOk result (λ t. AreRows arity t.rows) }
         ensures same { IfOk result (λ t. SameRows t.rows (rows_of arity rows flat.items)) }
+        ensures most { IfOk result (λ t. length t.rows ≤ rows) }
     {
         if are_ascending(&flat, arity as usize, rows) {
             return Ok(Table {
@@ -58,6 +59,42 @@ impl Table {
         }
         let (count, flat) = sorted_rows(alloc, &flat, arity as usize, rows)?;
         Ok(Table { arity, count, flat })
+    }
+
+    /// The table of rows that are known to ascend: they are neither compared nor copied.
+    pub fn from_ascending(arity: u32, rows: usize, flat: Vec<u32>) -> Table
+        requires whole { vec_len flat ≡ arity * rows }
+        requires ascending { IsAscending (rows_of arity rows flat.items) }
+        ensures { result ≡ record { arity = arity; rows = rows_of arity rows flat.items } }
+    {
+        Table {
+            arity,
+            count: rows,
+            flat,
+        }
+    }
+
+    /// A copy of the table. It takes no probe. The only error is want of memory.
+    pub fn copied(&self, alloc: Global) -> Result<Table, AllocError>
+        ensures same { IfOk result (λ t. t ≡ self.now) }
+        ensures rows { AreRows self.now.arity self.now.rows }
+    {
+        let flat = Vec::from_slice(alloc, &self.flat)?;
+        Ok(Table {
+            arity: self.arity,
+            count: self.count,
+            flat,
+        })
+    }
+
+    /// A copy of the first `count` rows, one after another. It takes no probe. The only error is want of memory.
+    pub fn first_rows(&self, alloc: Global, count: usize) -> Result<Vec<u32>, AllocError>
+        requires { count ≤ length self.now.rows }
+        ensures whole { IfOk result (λ flat. length flat.items ≡ self.now.arity * count) }
+        ensures rows { IfOk result (λ flat. rows_of self.now.arity count flat.items ≡ take count self.now.rows) }
+    {
+        let arity = self.arity as usize;
+        Vec::from_slice(alloc, first_rows_in(&self.flat, arity, self.count, count))
     }
 
     /// How many values each row has.

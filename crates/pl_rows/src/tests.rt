@@ -207,8 +207,31 @@ fn is_given<L: Ledger>(alloc: Global, given: &Given, blank: Blank) -> Result<boo
     let mut steps: Steps<L> = Steps::new(blank);
     match table_of(alloc, given.arity, given.rows, given.flat)? {
         None => Ok(false),
-        Some(table) => Ok(table.arity() == given.arity && reads(&table, given.table, &mut steps)),
+        Some(table) => Ok(
+            table.arity() == given.arity
+                && reads(&table, given.table, &mut steps)
+                && is_copied(alloc, &table, given.table, &mut steps)?,
+        ),
     }
+}
+
+/// Whether a copy has the rows, and the first rows, put together again, are those of the table.
+fn is_copied<L: Ledger>(
+    alloc: Global,
+    table: &Table,
+    rows: &[&[u32]],
+    steps: &mut Steps<L>,
+) -> Result<bool, AllocError> {
+    let copy = table.copied(alloc)?;
+    let half = rows.len() / 2;
+    if copy.len() < half {
+        return Ok(false);
+    }
+    let flat = copy.first_rows(alloc, half)?;
+    let Some(first) = table_of(alloc, copy.arity(), half, flat.as_slice())? else {
+        return Ok(false);
+    };
+    Ok(reads(&copy, rows, steps) && reads(&first, &rows[..half], steps))
 }
 
 fn finds<L: Ledger>(

@@ -2,14 +2,14 @@ use Rattle.std.proofs.Common.{arith, sym, ◌∙◌}
 use Rattle.pl_join.specs.Source.{differ}
 use Rattle.pl_join.proofs.Loops.{whole_more, kept_more, left_out, same_along, kept_all, differs, no_difference}
 use Rattle.pl_join.proofs.filters.unequal_rows.Goals as goal
-use Rattle.pl_join.proofs.filters.unequal_rows.Goals.{then-value_in+in_ok-extend_from_slice, else-value_in}
+use Rattle.pl_join.proofs.filters.unequal_rows.Goals.{then-value_in+in_ok-append, else-value_in}
 
 pub loop-i-preserved : goal.loop-i-preserved
 loop-i-preserved g c = elim c.if-value_in.branch [
-  | then-value_in+in_ok-extend_from_slice w ↦ record {
+  | then-value_in+in_ok-append w ↦ record {
     few = omega arith;
-    whole = rw (w.flat-is, w.in_ok-extend_from_slice.ensures.items, w.count-is) (whole_more _ _ _ _ c.loop-i.invariant.whole c.row-row.ensures.width);
-    rows = rw (w.flat-is, w.in_ok-extend_from_slice.ensures.items, w.count-is)
+    whole = rw (w.flat-is, w.in_ok-append.ensures.items, w.count-is) (whole_more _ _ _ _ c.loop-i.invariant.whole c.row-row.ensures.width);
+    rows = rw (w.flat-is, w.in_ok-append.ensures.items, w.count-is)
         (kept_more (differ c.args.a c.args.b) _ _ _ _ _ _ c.row-row.ensures.row c.loop-i.invariant.whole c.row-row.ensures.width (differs c.args.a c.args.b c.row-row.result.now _ _ c.value_in.ensures c.value_in-in-loop-i.ensures w.if-value_in.true) c.loop-i.invariant.rows);
     cost = omega arith;
   }

@@ -10,7 +10,7 @@ loop-place-init g c = appended_none (glued c.args.width c.args.row.now) c.args.t
 pub loop-place-preserved : goal.loop-place-preserved
 loop-place-preserved g c =
     appended_twice c.args.width c.args.table.now.rows c.args.range.from c.loop-place.place c.args.row.now c.row-other.result.now _ _ _ _ _
-    c.loop-place.auto.place c.row-other.ensures.row c.loop-place.invariant c.in_ok-extend_from_slice.ensures.items c.in_ok-extend_from_slice-2.ensures.items
+    c.loop-place.auto.place c.row-other.ensures.row c.loop-place.invariant c.in_ok-append.ensures.items c.in_ok-append-2.ensures.items
     (take_rest c.row-other.result.now c.args.width)
 
 pub returns : goal.returns

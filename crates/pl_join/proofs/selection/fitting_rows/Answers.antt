@@ -1,36 +1,29 @@
-use Rattle.std.proofs.Common.{arith, sym, ◌∙◌, ap, map, filter}
-use Rattle.std.proofs.lemmas.List.{take_all, length-map}
-use Rattle.pl_join.specs.Source.{picked, fits_slots}
-use Rattle.pl_join.proofs.Loops.{whole_more, kept_mapped_more, left_out, same_along, fits_is}
+use Rattle.std.proofs.Common.{◌≡◌, true, [], length, map, filter, All, sym, ap, subst, ◌∙◌, vec_len, arith}
+use Rattle.std.proofs.lemmas.Bool.Decides.{Decides-eqb}
+use Rattle.std.proofs.lemmas.List.{nil_from_length}
+use Rattle.std.proofs.lemmas.List.Elements.{All-weaker}
+use Rattle.std.proofs.lemmas.Result.{IfOk-weaker}
+use Rattle.pl_rows.specs.Rows.{Rows, SameRows}
+use Rattle.pl_join.specs.Source.{AreAll, picked, fits_slots, passes_all}
+use Rattle.pl_join.proofs.Loops.{same_along, same_rows}
+use Rattle.pl_join.proofs.Selecting.{filter_agree, all_kept, picked_all}
 use Rattle.pl_join.proofs.selection.fitting_rows.Goals as goal
-use Rattle.pl_join.proofs.selection.fitting_rows.Goals.{then-fits+in_ok-extend_from_slice, else-fits}
 
-pub loop-i-preserved : goal.loop-i-preserved
-loop-i-preserved g c = elim c.if-fits.branch [
-  | then-fits+in_ok-extend_from_slice w ↦ record {
-    values = c.pick.auto.values ∙ c.loop-i.invariant.values;
-    few = omega arith;
-    whole = rw (w.flat-is, w.in_ok-extend_from_slice.ensures.items, w.count-is, c.pick.ensures)
-        (whole_more _ _ _ _ c.loop-i.invariant.whole (length-map c.args.columns.now _));
-    rows = rw (w.flat-is, w.in_ok-extend_from_slice.ensures.items, w.count-is, c.pick.ensures)
-        (kept_mapped_more (picked c.args.columns.now) (fits_slots c.args.sources.now c.args.columns.now) _ _ _ _ _ _ c.row-row.ensures.row c.loop-i.invariant.whole (length-map c.args.columns.now _)
-        (fits_is c.args.sources.now c.args.columns.now c.row-row.result.now _ _ _ c.pick.ensures c.fits.ensures w.if-fits.true) c.loop-i.invariant.rows);
-    cost = omega arith;
-  }
-  | else-fits w ↦ record {
-    values = c.pick.auto.values ∙ c.loop-i.invariant.values;
-    few = omega arith;
-    whole = rw (w.flat-is, w.count-is) c.loop-i.invariant.whole;
-    rows = rw (w.flat-is, w.count-is)
-        (c.loop-i.invariant.rows ∙ ap (map (picked c.args.columns.now)) (sym (left_out (fits_slots c.args.sources.now c.args.columns.now) _ _ _ c.row-row.ensures.row
-        (fits_is c.args.sources.now c.args.columns.now c.row-row.result.now _ _ _ c.pick.ensures c.fits.ensures w.if-fits.false))));
-    cost = omega arith;
-  }
-]
+pub returns-then-are_all-clause-same : goal.returns-then-are_all-clause-same
+returns-then-are_all-clause-same g c =
+    let none : c.in_ok-tests.tests.items ≡ [] = nil_from_length c.in_ok-tests.tests.items (let empty = (Decides-eqb (vec_len c.in_ok-tests.tests) 0).0 (sym c.is_empty.ensures ∙ c.if-is_empty.true) in omega (arith, empty)) in
+    let kept : All (λ row. fits_slots c.args.sources.now c.args.columns.now row ≡ true) c.args.table.now.rows =
+    All-weaker (λ row. length row ≡ c.args.table.now.arity) (λ row. fits_slots c.args.sources.now c.args.columns.now row ≡ true)
+    (λ row l. sym (c.in_ok-tests.ensures.tests row (l ∙ sym c.requires.arity)) ∙ ap (λ tests. passes_all tests row) none) c.args.table.now.rows c.copied.ensures.rows.width in
+    let same : All (λ row. picked c.args.columns.now row ≡ row) c.args.table.now.rows =
+    All-weaker (λ row. length row ≡ c.args.table.now.arity) (λ row. picked c.args.columns.now row ≡ row)
+    (λ row l. picked_all c.args.columns.now row (subst (AreAll c.args.columns.now) (c.arity.ensures ∙ sym l) (c.are_all.ensures.0 c.if-are_all.true))) c.args.table.now.rows c.copied.ensures.rows.width in
+    IfOk-weaker _ (λ (t : Rows). t ≡ c.args.table.now) (λ (t : Rows). SameRows t.rows (map (picked c.args.columns.now) (filter (fits_slots c.args.sources.now c.args.columns.now) c.args.table.now.rows)))
+    (λ t e. same_rows _ _ (ap (λ (r : Rows). r.rows) e ∙ sym (all_kept _ _ _ same kept))) c.copied.ensures.same
 
 pub returns-clause-same : goal.returns-clause-same
 returns-clause-same g c =
-    let all = take_all c.loop-i.i c.args.table.now.rows (omega (arith, c.len-i-end.ensures.len)) in
-    same_along _ _ _
-    (c.loop-i.invariant.rows ∙ ap (λ rows. map (picked c.args.columns.now) (filter (fits_slots c.args.sources.now c.args.columns.now) rows)) all)
-    c.from_rows.ensures.same
+    let same : filter (passes_all c.deref.result.now) c.args.table.now.rows ≡ filter (fits_slots c.args.sources.now c.args.columns.now) c.args.table.now.rows =
+    filter_agree _ _ _ (All-weaker (λ row. length row ≡ c.args.table.now.arity) (λ row. passes_all c.deref.result.now row ≡ fits_slots c.args.sources.now c.args.columns.now row)
+    (λ row l. rw c.deref.ensures.value (c.in_ok-tests.ensures.tests row (l ∙ sym c.requires.arity))) c.args.table.now.rows c.passing_rows.ensures.table.width) in
+    same_along _ _ _ (ap (map (picked c.args.columns.now)) same) c.passing_rows.ensures.same

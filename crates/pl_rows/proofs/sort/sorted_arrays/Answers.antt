@@ -7,11 +7,11 @@ use Rattle.pl_rows.proofs.sort.sorted_arrays.Goals as goal
 
 pub returns-clause-ascending : goal.returns-clause-ascending
 returns-clause-ascending g c =
-    (sorted_arrays g.row.N c.args.count c.args.flat.now _ _ _ _ _ c.requires.some c.requires.whole (c.in_ok-rows.ensures.items ∙ c.as_chunks.ensures.front) c.sort_unstable.ensures.permutation c.sort_unstable.ensures.sorted c.dedup.ensures.filtered c.as_slice-distinct.ensures.value (c.in_ok-flat.ensures.items ∙ c.as_flattened.ensures.value)).ascending
+    (sorted_arrays g.row.N c.args.count c.args.flat.now _ _ _ _ _ c.requires.some c.requires.whole (c.in_ok-rows.ensures.items ∙ c.as_chunks.ensures.front) c.in_ok-sort.ensures.permutation c.in_ok-sort.ensures.sorted c.dedup.ensures.filtered c.as_slice-distinct.ensures.value (c.in_ok-flat.ensures.items ∙ c.as_flattened.ensures.value)).ascending
 
 same : goal.returns-clause-same
 same g c =
-    (sorted_arrays g.row.N c.args.count c.args.flat.now _ _ _ _ _ c.requires.some c.requires.whole (c.in_ok-rows.ensures.items ∙ c.as_chunks.ensures.front) c.sort_unstable.ensures.permutation c.sort_unstable.ensures.sorted c.dedup.ensures.filtered c.as_slice-distinct.ensures.value (c.in_ok-flat.ensures.items ∙ c.as_flattened.ensures.value)).same
+    (sorted_arrays g.row.N c.args.count c.args.flat.now _ _ _ _ _ c.requires.some c.requires.whole (c.in_ok-rows.ensures.items ∙ c.as_chunks.ensures.front) c.in_ok-sort.ensures.permutation c.in_ok-sort.ensures.sorted c.dedup.ensures.filtered c.as_slice-distinct.ensures.value (c.in_ok-flat.ensures.items ∙ c.as_flattened.ensures.value)).same
 
 pub returns-clause-same : goal.returns-clause-same
 returns-clause-same g c = same g c

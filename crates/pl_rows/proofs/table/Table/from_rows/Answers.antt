@@ -1,6 +1,7 @@
-use Rattle.std.proofs.Common.{◌∙◌, subst}
+use Rattle.std.proofs.Common.{◌∙◌, subst, arith}
 use Rattle.pl_rows.specs.Rows.{rows_of, AreRows}
-use Rattle.pl_rows.proofs.Places.{width-rows_of}
+use Rattle.pl_rows.proofs.Canonical.{length-le_ascending}
+use Rattle.pl_rows.proofs.Places.{length-rows_of, width-rows_of}
 use Rattle.pl_rows.proofs.table.Table.from_rows.Goals as goal
 
 pub returns-then-are_ascending-clause-rows : goal.returns-then-are_ascending-clause-rows
@@ -22,3 +23,12 @@ returns-clause-rows c =
 
 pub returns-clause-same : goal.returns-clause-same
 returns-clause-same c row = rw c.deref-2.ensures.value at (c.in_ok-count.ensures.same row)
+
+pub returns-then-are_ascending-clause-most : goal.returns-then-are_ascending-clause-most
+returns-then-are_ascending-clause-most c = omega (arith, length-rows_of c.args.arity c.args.rows c.args.flat.items)
+
+pub returns-clause-most : goal.returns-clause-most
+returns-clause-most c =
+    let told = c.in_ok-count.ensures in
+    let fewer = length-le_ascending _ _ told.ascending told.same in
+    omega (arith, fewer, length-rows_of c.args.arity c.args.rows c.deref-2.result.now)
