@@ -1,7 +1,9 @@
 -- for the crates above: the facts of a removal, and that a hypergraph has one
 pub mod Removals
--- lists of numbers as sets, and sets of classes as bits
-mod Members
+-- for the crates above: lists of numbers as sets, first appearances, and the classes of edges as lists
+pub mod Members
+pub mod Orders
+-- sets of classes as bits
 mod Bits
 -- trees and ears: how an ear is taken out of a tree and put back, and a join tree exactly where one edge stays
 mod Trees
@@ -9,6 +11,5 @@ mod Acyclic
 -- the search for the next ear, and the loop round it
 mod Searches
 mod UnderWay
--- the order of the classes, and what it holds
-mod Orders
+-- what the order of the classes holds
 mod ClassOrders

@@ -63,7 +63,7 @@ contains_member_cons : (x : ℕ) (xs : List ℕ) (y : ℕ) → (y ≡ x) ⊎ Con
 contains_member_cons x xs y (inl s) next = rw (eq-eqb y x s) refl
 contains_member_cons x xs y (inr k) next = rw (next k) (or_true (eqb y x))
 
-member_contains : (xs : List ℕ) (y : ℕ) → member xs y ≡ true → Contains xs y
+pub member_contains : (xs : List ℕ) (y : ℕ) → member xs y ≡ true → Contains xs y
 member_contains [] y h = absurd (cc)
 member_contains (x ∷ xs) y h = member_contains_cons x xs y (same_or_not y x) h (member_contains xs y)
 

@@ -1,0 +1,12 @@
+//! The join of the core of a cyclic schema: all of its relations in one.
+//!
+//! What the join is, stands in `specs/Relation.antt` of `pl_join`, and the order of its classes in `specs/ClassesMet.antt`.
+#![tactic(auto)]
+
+mod classes;
+mod joining;
+mod sequence;
+#[cfg(test)]
+mod tests;
+
+pub use joining::core_table;
