@@ -1,0 +1,14 @@
+-- for the crates above: fronts of the walk extend to the whole join
+pub mod Walks
+-- for the functions of this crate
+mod Lists
+mod Columns
+mod Roots
+mod Arrangements
+mod PassLemmas
+mod Costs
+mod Stores
+mod Numbers
+mod Reductions
+mod PlanNodes
+mod EdgeSets
