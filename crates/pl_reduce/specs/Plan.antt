@@ -1,12 +1,12 @@
 -- The relations of a join as a removal of ears wants them: one for the core, and one for each removed ear.
-use Rattle.std.specs.Prelude.{◌≡◌, ◌↔◌, ◌==◌, ◌<◌, ℕ, Bool, zero, suc, List, [], length, filter, slice_index, slice_index_or, Contains}
+use Rattle.std.specs.Prelude.{◌≡◌, ◌↔◌, ◌==◌, ◌<◌, ℕ, Bool, suc, List, [], length, filter, slice_index, slice_index_or, Contains}
 use Rattle.std.specs.Int.{bit_at}
 use Rattle.std.specs.List.{flat_map}
 use Rattle.pl_join.specs.Relation.{ClassRows}
 use Rattle.pl_hyper.specs.declared.ear.Ear.{Ear}
 use Rattle.pl_hyper.specs.Edges.{Holds}
 use Rattle.pl_hyper.specs.Ears.{Removal, ear_at}
-use Rattle.pl_hyper.specs.ClassOrder.{classes_of, class_order, first_appearances, IsHeldBy}
+use Rattle.pl_hyper.specs.ClassOrder.{classes_of, class_order, first_appearances}
 use Rattle.pl_reduce.specs.Nodes.{Node, node_at}
 
 -- the classes of the core's edges, in class order: in the order in which a walk over these edges meets them
