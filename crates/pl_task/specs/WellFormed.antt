@@ -54,11 +54,10 @@ pub record IsLiftedOf (predicates : List PredicateDef) (objects parameters : ℕ
   pub arity : (d : PredicateDef) → slice_get predicates atom.predicate ≡ Some d → length atom.terms ≡ d.arity
   pub terms : All (IsTermOf objects parameters) atom.terms
 
--- its atom or its terms are of the task, and a negated atom is of a static predicate
+-- its atom or its terms are of the task
 pub record IsLiteralOf (predicates : List PredicateDef) (objects parameters : ℕ) (l : Literal) : Type 0 where
   pub atom : (a : Lifted) → l ≡ literal.Atom a → IsLiftedOf predicates objects parameters a
   pub not_atom : (a : Lifted) → l ≡ literal.NotAtom a → IsLiftedOf predicates objects parameters a
-  pub not_static : (a : Lifted) (d : PredicateDef) → l ≡ literal.NotAtom a → slice_get predicates a.predicate ≡ Some d → IsTrue d.is_static
   pub equal_left : (a b : Term) → l ≡ literal.Equal a b → IsTermOf objects parameters a
   pub equal_right : (a b : Term) → l ≡ literal.Equal a b → IsTermOf objects parameters b
   pub not_equal_left : (a b : Term) → l ≡ literal.NotEqual a b → IsTermOf objects parameters a

@@ -78,7 +78,7 @@ pub struct Lifted {
 pub enum Literal {
     /// The atom is true.
     Atom(Lifted),
-    /// The atom, of a static predicate, is false.
+    /// The atom is false, whether its predicate is static or fluent.
     NotAtom(Lifted),
     /// Both terms are one object.
     Equal(Term, Term),

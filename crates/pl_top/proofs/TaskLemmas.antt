@@ -224,7 +224,6 @@ module _ (predicates : List Declared) (schemas : List Schema) (differ : are_dist
     literal_ok objects parameters a h = record {
       atom = λ b is. (let same : a ≡ b = cc in subst (IsLiftedOf defs objects parameters) same h);
       not_atom = λ b is. cc;
-      not_static = λ b d is at. cc;
       equal_left = λ x y is. cc;
       equal_right = λ x y is. cc;
       not_equal_left = λ x y is. cc;

@@ -38,7 +38,6 @@ lit_is : (objects parameters k : ℕ) → k < parameters → IsLiteralOf (on_def
 lit_is objects parameters k h = record {
   atom = λ a e. (let same : on (term.Parameter k) ≡ a = cc in subst (IsLiftedOf (on_definition ∷ []) objects parameters) same (on_is objects parameters k h));
   not_atom = λ a e. absurd (cc);
-  not_static = λ a d e found. absurd (cc);
   equal_left = λ a b e. absurd (cc);
   equal_right = λ a b e. absurd (cc);
   not_equal_left = λ a b e. absurd (cc);
@@ -49,7 +48,6 @@ apart_is : (objects parameters j k : ℕ) → j < parameters → k < parameters 
 apart_is objects parameters j k p q = record {
   atom = λ a e. absurd (cc);
   not_atom = λ a e. absurd (cc);
-  not_static = λ a d e found. absurd (cc);
   equal_left = λ a b e. absurd (cc);
   equal_right = λ a b e. absurd (cc);
   not_equal_left = λ a b e. (let same : term.Parameter j ≡ a = cc in subst (IsTermOf objects parameters) same (parameter_is objects parameters j p));
