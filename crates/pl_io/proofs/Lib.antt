@@ -4,3 +4,5 @@ pub mod Parts
 pub mod Places
 -- calls that are interrupted, and made again
 pub mod Kept
+-- for the crates above
+pub mod Telling

@@ -46,7 +46,7 @@ Appends-joined old mid new pieces i d h first second =
     subst (Appends old new) more (Appends-trans old mid new _ _ first second)
 
 -- some bytes, and then a front of some more, are a front of the two
-AppendsFront-append : (old mid new : Option (List ℕ)) (before piece after : List ℕ)
+pub AppendsFront-append : (old mid new : Option (List ℕ)) (before piece after : List ℕ)
     → Appends old mid before → AppendsFront mid new piece → AppendsFront old new (before ++ (piece ++ after))
 AppendsFront-append None mid new before piece after first second = tt
 AppendsFront-append (Some xs) None new before piece after first second = absurd first

@@ -1,6 +1,7 @@
 -- What a shelf in memory shows of itself.
-use Rattle.std.specs.Prelude.{◌≡◌, ℕ, List, Option, option_and_then}
-use Rattle.pl_io.specs.Outside.{NamedBytes}
+use Rattle.std.specs.Prelude.{◌≡◌, ℕ, List, Option, Some, option_and_then}
+use Rattle.pl_io.specs.Begun.{names_in}
+use Rattle.pl_io.specs.Outside.{NamedBytes, ShelfSeen}
 use Rattle.pl_io.specs.Places.{name_at}
 use Rattle.pl_io.specs.declared.mem_shelf.MemShelf.{MemShelf}
 
@@ -16,9 +17,22 @@ current_of shelf = option_and_then (name_at shelf.files.items) shelf.current
 abbrev pub place_of : MemShelf → ℕ
 place_of shelf = shelf.place
 
+-- the names that were begun, as long as there was memory to note them
+abbrev pub begun_of : MemShelf → Option (List (List ℕ))
+begun_of shelf = names_in shelf.begun
+
 -- how many calls failed
 abbrev pub faults_of : MemShelf → ℕ
 faults_of shelf = shelf.faults
+
+abbrev pub seen_of : MemShelf → ShelfSeen
+seen_of shelf = record {
+  files = Some (files_of shelf);
+  current = current_of shelf;
+  place = place_of shelf;
+  begun = begun_of shelf;
+  faults = faults_of shelf;
+}
 
 -- how many calls were numbered
 abbrev pub calls_of : MemShelf → ℕ

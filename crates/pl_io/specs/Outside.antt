@@ -6,9 +6,33 @@ use Rattle.pl_io.specs.declared.error.Failed.{Failed}
 use Rattle.pl_io.specs.declared.error.ReadEnd.{ReadEnd}
 use Rattle.pl_io.specs.declared.error.ReadEnd.TheVariants.{Missing, ReadFault, TooLong, Memory}
 
+-- the most bytes that are read of a file
+abbrev pub most_file_bytes : ℕ
+most_file_bytes = 16777216
+
 -- a file: its name, and its bytes
 abbrev pub NamedBytes : Type 0
 NamedBytes = List ℕ × List ℕ
+
+-- what a shelf tells of itself
+pub record ShelfSeen : Type 0 where
+  -- the files with their names, where it tells them; the first file of a name counts, and no call changes them
+  pub files : Option (List NamedBytes)
+  -- the name of the file at hand; of a shelf that tells no files it only says whether there is one
+  pub current : Option (List ℕ)
+  -- how many bytes were given since the last `begin`
+  pub place : ℕ
+  -- the names that were begun, in their order, also those of which `begin` failed, where it tells them
+  pub begun : Option (List (List ℕ))
+  -- how many calls failed: it never falls, and stops at 18,446,744,073,709,551,615
+  pub faults : ℕ
+
+-- what a sink tells of itself
+pub record SinkSeen : Type 0 where
+  -- the bytes that were written, where it tells them
+  pub written : Option (List ℕ)
+  -- how many calls failed: it never falls, and stops at 18,446,744,073,709,551,615
+  pub faults : ℕ
 
 -- the bytes of the first file of that name
 abbrev pub content_of : List NamedBytes → List ℕ → Option (List ℕ)
@@ -46,11 +70,22 @@ left_of None current place = None
 left_of (Some files) None place = None
 left_of (Some files) (Some name) place = option_map (drop place) (content_of files name)
 
+-- what the file at hand of a shelf has left, where it is known
+abbrev pub left_in : ShelfSeen → Option (List ℕ)
+left_in shelf = left_of shelf.files shelf.current shelf.place
+
 -- what `begin` answers of a name, and which file is at hand afterwards
 abbrev pub Begins : Option (List NamedBytes) → List ℕ → Option (List ℕ) → Result Bool Failed → Type 0
 Begins files name current (Ok true) = IsAtHand files name current
 Begins files name current (Ok false) = IsMissing files name × (current ≡ None)
 Begins files name current (Err e) = current ≡ None
+
+-- Where the names begun are told after some calls, they are those told before them, and then these. A shelf may stop telling
+-- them.
+abbrev pub BegunThen : Option (List (List ℕ)) → List (List ℕ) → Option (List (List ℕ)) → Type 0
+BegunThen old names None = ⊤
+BegunThen None names (Some new) = ⊥
+BegunThen (Some old) names (Some new) = new ≡ old ++ names
 
 -- a count rose, or stands at the largest number that it can hold
 abbrev pub Rose : ℕ → ℕ → Type 0

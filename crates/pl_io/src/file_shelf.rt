@@ -42,15 +42,9 @@ impl Shelf for FileShelf<'_> {
     ghost use Rattle.std.specs.Io.{ReadsAtMost};
     ghost use Rattle.std.specs.Io.KnownBytes.{ReadConsumes};
     ghost use Rattle.pl_io.specs.Outside.{Begins, HasCause, faults_after};
-    ghost use Rattle.pl_io.specs.FileShelf.{current_of, place_of, faults_of};
+    ghost use Rattle.pl_io.specs.FileShelf.{seen_of, current_of, place_of, faults_of};
 
-    ghost files = { λ _. None };
-
-    ghost current = { current_of };
-
-    ghost place = { place_of };
-
-    ghost faults = { faults_of };
+    ghost seen = { seen_of };
 
     /// It counts a fault exactly where it fails, as where there is no such file.
     fn begin(&mut self, name: &str) -> Result<bool, Failed>

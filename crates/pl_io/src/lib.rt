@@ -3,6 +3,7 @@
 //! What a shelf and a sink tell of themselves stands in `specs/Outside.antt`.
 #![tactic(auto)]
 
+mod begun;
 mod error;
 mod file_shelf;
 mod mem_shelf;

@@ -4,6 +4,7 @@ ghost use Rattle.std.specs.Prelude.{◌≤◌};
 ghost use Rattle.std.specs.Option.{ForSome};
 ghost use Rattle.pl_io.specs.Places.{IsFirstOfItsName};
 
+use crate::begun::Begun;
 use crate::error::Failed;
 use crate::named_file::{NamedFile, place_of_name};
 use crate::numbered::Numbered;
@@ -11,10 +12,12 @@ use crate::shelf::Shelf;
 
 /// A shelf that keeps its files in memory, and fails at the calls that it is told to fail at.
 ///
-/// Calls of `begin` and `read` are numbered together from 1.
+/// Calls of `begin` and `read` are numbered together from 1. It tells which names were begun as long as there is memory
+/// to note them.
 #[derive(Drop)]
 pub struct MemShelf {
     files: Vec<NamedFile>,
+    begun: Begun,
     numbered: Numbered,
     piece: usize,
     faults: u64,
@@ -25,10 +28,10 @@ pub struct MemShelf {
 }
 
 impl MemShelf {
-    ghost use Rattle.std.specs.Prelude.{◌≡◌, ◌↔◌, ◌^◌, ◌<◌, IsTrue, Contains, None, Some, IsSome, if◌then◌else◌};
+    ghost use Rattle.std.specs.Prelude.{◌≡◌, ◌↔◌, ◌^◌, ◌<◌, IsTrue, [], Contains, None, Some, IsSome, if◌then◌else◌};
     ghost use Rattle.pl_io.specs.Outside.{left_of};
     ghost use Rattle.pl_io.specs.Numbered.{next_number};
-    ghost use Rattle.pl_io.specs.MemShelf.{files_of, current_of, place_of, faults_of, calls_of, failing_of, piece_of};
+    ghost use Rattle.pl_io.specs.MemShelf.{files_of, current_of, place_of, begun_of, faults_of, calls_of, failing_of, piece_of};
 
     /// A shelf of these files, of which the first of a name counts.
     ///
@@ -40,11 +43,14 @@ impl MemShelf {
         ensures piece { piece_of result ≡ piece }
         ensures current { current_of result ≡ None }
         ensures place { place_of result ≡ 0 }
+        ensures begun { begun_of result ≡ Some [] }
         ensures calls { calls_of result ≡ 0 }
         ensures faults { faults_of result ≡ 0 }
     {
+        let begun = Begun::new(*files.allocator());
         MemShelf {
             files,
+            begun,
             numbered: Numbered::new(failing),
             piece,
             faults: 0,
@@ -85,21 +91,15 @@ impl MemShelf {
 }
 
 impl Shelf for MemShelf {
-    ghost use Rattle.std.specs.Prelude.{◌≡◌, ◌+◌, ◌↔◌, ◌^◌, ◌<◌, length, min, Contains, Some, is_some, IsErr, IsSome, IfOk, IsSomeAnd};
+    ghost use Rattle.std.specs.Prelude.{◌≡◌, ◌+◌, ◌↔◌, ◌^◌, ◌<◌, [], ◌∷◌, length, min, Contains, Some, is_some, IsErr, IsSome, IfOk, IsSomeAnd};
     ghost use Rattle.std.specs.Result.{result_unwrap_or};
     ghost use Rattle.std.specs.Io.{ReadsAtMost};
     ghost use Rattle.std.specs.Io.KnownBytes.{ReadConsumes};
-    ghost use Rattle.pl_io.specs.Outside.{Begins, HasCause, faults_after, content_of, left_of};
+    ghost use Rattle.pl_io.specs.Outside.{Begins, BegunThen, HasCause, faults_after, content_of, left_of};
     ghost use Rattle.pl_io.specs.Numbered.{next_number};
-    ghost use Rattle.pl_io.specs.MemShelf.{files_of, current_of, place_of, faults_of, calls_of, failing_of, piece_of, SameScript};
+    ghost use Rattle.pl_io.specs.MemShelf.{seen_of, files_of, current_of, place_of, begun_of, faults_of, calls_of, failing_of, piece_of, SameScript};
 
-    ghost files = { λ s. Some (files_of s) };
-
-    ghost current = { current_of };
-
-    ghost place = { place_of };
-
-    ghost faults = { faults_of };
+    ghost seen = { seen_of };
 
     /// It fails exactly where the call's number is among those that fail, and else answers whether there is such a file.
     #[tactic(auto, using(crate::proofs::Places::by_place))]
@@ -107,6 +107,7 @@ impl Shelf for MemShelf {
         ensures begins { Begins (Some (files_of self.old)) name.now (current_of self.new) result }
         ensures place { place_of self.new ≡ 0 }
         ensures files { files_of self.new ≡ files_of self.old }
+        ensures begun { BegunThen (begun_of self.old) (name.now ∷ []) (begun_of self.new) }
         ensures cause { HasCause (faults_of self.old) (faults_of self.new) result }
 
         ensures fails { IsErr result ↔ Contains (failing_of self.old) (next_number (calls_of self.old)) }
@@ -115,6 +116,7 @@ impl Shelf for MemShelf {
         ensures calls { calls_of self.new ≡ next_number (calls_of self.old) }
         ensures script { SameScript self.old self.new }
     {
+        self.begun.note(name.as_bytes());
         self.current = None;
         self.place = 0;
         if self.fails() {
@@ -135,6 +137,7 @@ impl Shelf for MemShelf {
         ensures place { place_of self.new ≡ place_of self.old + result_unwrap_or result 0 }
         ensures files { files_of self.new ≡ files_of self.old }
         ensures current { current_of self.new ≡ current_of self.old }
+        ensures begun { begun_of self.new ≡ begun_of self.old }
         ensures cause { HasCause (faults_of self.old) (faults_of self.new) result }
 
         ensures fails { IsErr result ↔ Contains (failing_of self.old) (next_number (calls_of self.old)) }

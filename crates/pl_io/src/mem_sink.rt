@@ -68,11 +68,9 @@ impl Sink for MemSink {
     ghost use Rattle.std.specs.Io.KnownBytes.{WriteAppends};
     ghost use Rattle.pl_io.specs.Outside.{HasCause, SameTelling, faults_after};
     ghost use Rattle.pl_io.specs.Numbered.{next_number};
-    ghost use Rattle.pl_io.specs.MemSink.{written_of, faults_of, calls_of, failing_of, piece_of, room_of, SameScript};
+    ghost use Rattle.pl_io.specs.MemSink.{seen_of, written_of, faults_of, calls_of, failing_of, piece_of, room_of, SameScript};
 
-    ghost written = { λ s. Some (written_of s) };
-
-    ghost faults = { faults_of };
+    ghost seen = { seen_of };
 
     /// Of a piece with a byte it fails exactly where the call's number is among those that fail or the room is full, and
     /// else takes as many bytes as the piece has, a call takes at most and there is room left for.

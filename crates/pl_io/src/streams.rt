@@ -30,15 +30,13 @@ impl OutSink {
 }
 
 impl Sink for OutSink {
-    ghost use Rattle.std.specs.Prelude.{◌≡◌, ◌<◌, length, None, Ok, OnOk};
+    ghost use Rattle.std.specs.Prelude.{◌≡◌, ◌<◌, length, Ok, OnOk};
     ghost use Rattle.std.specs.Result.{result_unwrap_or};
     ghost use Rattle.std.specs.Io.{WritesAtMost};
     ghost use Rattle.pl_io.specs.Outside.{HasCause, faults_after};
-    ghost use Rattle.pl_io.specs.Streams.{out_faults};
+    ghost use Rattle.pl_io.specs.Streams.{out_seen, out_faults};
 
-    ghost written = { λ _. None };
-
-    ghost faults = { out_faults };
+    ghost seen = { out_seen };
 
     /// It counts a fault exactly where it fails.
     fn write(&mut self, piece: &[u8]) -> Result<usize, Failed>
@@ -80,15 +78,13 @@ impl ErrSink {
 }
 
 impl Sink for ErrSink {
-    ghost use Rattle.std.specs.Prelude.{◌≡◌, ◌<◌, length, None, Ok, OnOk};
+    ghost use Rattle.std.specs.Prelude.{◌≡◌, ◌<◌, length, Ok, OnOk};
     ghost use Rattle.std.specs.Result.{result_unwrap_or};
     ghost use Rattle.std.specs.Io.{WritesAtMost};
     ghost use Rattle.pl_io.specs.Outside.{HasCause, faults_after};
-    ghost use Rattle.pl_io.specs.Streams.{err_faults};
+    ghost use Rattle.pl_io.specs.Streams.{err_seen, err_faults};
 
-    ghost written = { λ _. None };
-
-    ghost faults = { err_faults };
+    ghost seen = { err_seen };
 
     /// It counts a fault exactly where it fails.
     fn write(&mut self, piece: &[u8]) -> Result<usize, Failed>

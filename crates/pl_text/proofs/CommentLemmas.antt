@@ -28,20 +28,24 @@ pub view-cons : (inside : Bool) (b : ℕ) (bytes : List ℕ) →
     view inside (b ∷ bytes) ≡ cond (is_inside inside b) 32 b ∷ view (is_inside inside b) bytes
 view-cons true b bytes = by_test (eqb b 10) refl
   where
-    by_test : (t : Bool) → eqb b 10 ≡ t → view true (b ∷ bytes) ≡ cond (not (eqb b 10)) 32 b ∷ view (not (eqb b 10)) bytes
+    by_test : (t : Bool) → eqb b 10 ≡ t →
+        view true (b ∷ bytes) ≡ cond (not (eqb b 10)) 32 b ∷ view (not (eqb b 10)) bytes
     by_test true e = let is : b ≡ 10 = grind (arith, nat_tests) in rw (e) (ap (λ x. x ∷ shown bytes) (sym is))
     by_test false e = rw (e) refl
 view-cons false b bytes = by_test (eqb b 59) refl
   where
-    by_test : (t : Bool) → eqb b 59 ≡ t → view false (b ∷ bytes) ≡ cond (eqb b 59) 32 b ∷ view (eqb b 59) bytes
+    by_test : (t : Bool) → eqb b 59 ≡ t →
+        view false (b ∷ bytes) ≡ cond (eqb b 59) 32 b ∷ view (eqb b 59) bytes
     by_test true e = rw (e) refl
     by_test false e = rw (e) refl
 
 pub length-view : (inside : Bool) (bytes : List ℕ) → length (view inside bytes) ≡ length bytes
 length-view true [] = refl
 length-view false [] = refl
-length-view true (b ∷ bytes) = ap length (view-cons true b bytes) ∙ ap suc (length-view (is_inside true b) bytes)
-length-view false (b ∷ bytes) = ap length (view-cons false b bytes) ∙ ap suc (length-view (is_inside false b) bytes)
+length-view true (b ∷ bytes) = ap length (view-cons true b bytes) ∙
+    ap suc (length-view (is_inside true b) bytes)
+length-view false (b ∷ bytes) = ap length (view-cons false b bytes) ∙
+    ap suc (length-view (is_inside false b) bytes)
 
 is_inside-holds : (inside : Bool) (b : ℕ) → b ≢ 10 → (b ≡ 59) ⊎ (inside ≡ true) → is_inside inside b ≡ true
 is_inside-holds true b other begins = grind (arith, nat_tests)
@@ -49,8 +53,10 @@ is_inside-holds false b other (inl is) = grind (arith, nat_tests)
 is_inside-holds false b other (inr never) = absurd (false≢true never)
 
 module _ (b : ℕ) (bytes : List ℕ) (p : ℕ) where
-  begins_at : (inside : Bool) (start : ℕ) → (slice_get (b ∷ bytes) start ≡ Some 59) ⊎ ((start ≡ 0) × (inside ≡ true)) →
-      start ≤ suc p → suc p < length (b ∷ bytes) → ((q : ℕ) → start ≤ q → q ≤ suc p → slice_get (b ∷ bytes) q ≢ Some 10) →
+  begins_at : (inside : Bool) (start : ℕ) →
+      (slice_get (b ∷ bytes) start ≡ Some 59) ⊎ ((start ≡ 0) × (inside ≡ true)) →
+      start ≤ suc p → suc p < length (b ∷ bytes) →
+      ((q : ℕ) → start ≤ q → q ≤ suc p → slice_get (b ∷ bytes) q ≢ Some 10) →
       IsCommentedAfter (is_inside inside b) bytes p
   begins_at inside zero begins le lt unbroken = record {
     start = 0;
@@ -75,7 +81,8 @@ module _ (b : ℕ) (bytes : List ℕ) (p : ℕ) where
   begins_at inside (suc start) (inr h) le lt unbroken = absurd (omega (arith, h.0))
 
   -- a position after the first is commented as it is in the bytes after the first
-  pub commented-from : (inside : Bool) → IsCommentedAfter inside (b ∷ bytes) (suc p) → IsCommentedAfter (is_inside inside b) bytes p
+  pub commented-from : (inside : Bool) → IsCommentedAfter inside (b ∷ bytes) (suc p) →
+      IsCommentedAfter (is_inside inside b) bytes p
   commented-from inside h = begins_at inside h.start h.begins h.up_to h.in_file h.unbroken
 
   goes_on : (start : ℕ) → b ≢ 10 → start ≡ 0 → ((q : ℕ) → start ≤ q → q ≤ p → slice_get bytes q ≢ Some 10) →
@@ -83,7 +90,8 @@ module _ (b : ℕ) (bytes : List ℕ) (p : ℕ) where
   goes_on start other is unbroken zero above below = λ e. other (same_Some b 10 e)
   goes_on start other is unbroken (suc q) above below = unbroken q (omega arith) (omega arith)
 
-  begins_before : (inside : Bool) (start : ℕ) → (slice_get bytes start ≡ Some 59) ⊎ ((start ≡ 0) × (is_inside inside b ≡ true)) →
+  begins_before : (inside : Bool) (start : ℕ) →
+      (slice_get bytes start ≡ Some 59) ⊎ ((start ≡ 0) × (is_inside inside b ≡ true)) →
       start ≤ p → p < length bytes → ((q : ℕ) → start ≤ q → q ≤ p → slice_get bytes q ≢ Some 10) →
       IsCommentedAfter inside (b ∷ bytes) (suc p)
   begins_before inside start (inl at) le lt unbroken = record {
@@ -112,18 +120,22 @@ module _ (b : ℕ) (bytes : List ℕ) (p : ℕ) where
     unbroken = goes_on start (λ (e : b ≡ 10). grind (arith, nat_tests)) is unbroken;
   }
 
-  pub commented-to : (inside : Bool) → IsCommentedAfter (is_inside inside b) bytes p → IsCommentedAfter inside (b ∷ bytes) (suc p)
+  pub commented-to : (inside : Bool) → IsCommentedAfter (is_inside inside b) bytes p →
+      IsCommentedAfter inside (b ∷ bytes) (suc p)
   commented-to inside h = begins_before inside h.start h.begins h.up_to h.in_file h.unbroken
 
 -- the first position is commented where its byte stands in a comment
 first-from : (inside : Bool) (b : ℕ) (bytes : List ℕ) (start : ℕ) →
-    (slice_get (b ∷ bytes) start ≡ Some 59) ⊎ ((start ≡ 0) × (inside ≡ true)) → start ≤ 0 → slice_get (b ∷ bytes) 0 ≢ Some 10 →
+    (slice_get (b ∷ bytes) start ≡ Some 59) ⊎ ((start ≡ 0) × (inside ≡ true)) → start ≤ 0 →
+    slice_get (b ∷ bytes) 0 ≢ Some 10 →
     is_inside inside b ≡ true
 first-from inside b bytes zero begins le other =
-    is_inside-holds inside b (λ is. other (ap Some is)) (elim begins [ inl at ↦ inl (same_Some b 59 at) | inr h ↦ inr h.1 ])
+    is_inside-holds inside b (λ is. other (ap Some is))
+    (elim begins [ inl at ↦ inl (same_Some b 59 at) | inr h ↦ inr h.1 ])
 first-from inside b bytes (suc start) begins le other = absurd (omega arith)
 
-first-to : (inside : Bool) (b : ℕ) (bytes : List ℕ) → is_inside inside b ≡ true → IsCommentedAfter inside (b ∷ bytes) 0
+first-to : (inside : Bool) (b : ℕ) (bytes : List ℕ) → is_inside inside b ≡ true →
+    IsCommentedAfter inside (b ∷ bytes) 0
 first-to inside b bytes goes = record {
   start = 0;
   begins = begins inside goes;
@@ -132,7 +144,8 @@ first-to inside b bytes goes = record {
   unbroken = unbroken inside goes;
 }
   where
-    begins : (inside : Bool) → is_inside inside b ≡ true → (slice_get (b ∷ bytes) 0 ≡ Some 59) ⊎ ((◌≡◌ {A = ℕ} 0 0) × (inside ≡ true))
+    begins : (inside : Bool) → is_inside inside b ≡ true →
+        (slice_get (b ∷ bytes) 0 ≡ Some 59) ⊎ ((◌≡◌ {A = ℕ} 0 0) × (inside ≡ true))
     begins true h = inr (refl, refl)
     begins false h = inl (ap Some (let e : b ≡ 59 = grind (arith, nat_tests) in e))
 
@@ -140,7 +153,8 @@ first-to inside b bytes goes = record {
     other true h = λ e. grind (arith, nat_tests)
     other false h = λ e. grind (arith, nat_tests)
 
-    unbroken : (inside : Bool) → is_inside inside b ≡ true → (q : ℕ) → 0 ≤ q → q ≤ 0 → slice_get (b ∷ bytes) q ≢ Some 10
+    unbroken : (inside : Bool) → is_inside inside b ≡ true → (q : ℕ) → 0 ≤ q → q ≤ 0 →
+        slice_get (b ∷ bytes) q ≢ Some 10
     unbroken inside h zero above below = λ e. other inside h (same_Some b 10 e)
     unbroken inside h (suc q) above below = absurd (omega arith)
 
@@ -155,15 +169,23 @@ seen inside [] p b at = absurd (none-some b at)
 seen inside (x ∷ bytes) zero b at = by_test (is_inside inside x) refl
   where
     by_test : (t : Bool) → is_inside inside x ≡ t → IsSeen inside (x ∷ bytes) 0 b
-    by_test true e = inl (ap (λ list. slice_get list 0) (view-cons inside x bytes) ∙ ap (λ t. Some (cond t 32 x)) e, first-to inside x bytes e)
+    by_test true e = inl (
+      ap (λ list. slice_get list 0) (view-cons inside x bytes) ∙
+          ap (λ t. Some (cond t 32 x)) e,
+      first-to inside x bytes e,
+    )
     by_test false e =
         inr (
           ap (λ list. slice_get list 0) (view-cons inside x bytes) ∙ ap (λ t. Some (cond t 32 x)) e ∙ at,
-          λ h. false≢true (sym e ∙ first-from inside x bytes h.start h.begins h.up_to (h.unbroken 0 h.up_to (omega arith))),
+          λ h. false≢true (sym e ∙
+              first-from inside x bytes h.start h.begins h.up_to (h.unbroken 0 h.up_to (omega arith))),
         )
 seen inside (x ∷ bytes) (suc p) b at =
     elim (seen (is_inside inside x) bytes p b at) [
-      | inl h ↦ inl (ap (λ list. slice_get list (suc p)) (view-cons inside x bytes) ∙ h.0, commented-to x bytes p inside h.1)
+      | inl h ↦ inl (
+        ap (λ list. slice_get list (suc p)) (view-cons inside x bytes) ∙ h.0,
+        commented-to x bytes p inside h.1,
+      )
       | inr h ↦
           inr (
             ap (λ list. slice_get list (suc p)) (view-cons inside x bytes) ∙ h.0,
@@ -193,7 +215,8 @@ commented bytes p h = record {
 
 -- a commented position shows a blank, and any other its byte
 pub shown-cases : (bytes : List ℕ) (p b : ℕ) → slice_get bytes p ≡ Some b →
-    ((slice_get (shown bytes) p ≡ Some 32) × IsCommented bytes p) ⊎ ((slice_get (shown bytes) p ≡ Some b) × (IsCommented bytes p → ⊥))
+    ((slice_get (shown bytes) p ≡ Some 32) × IsCommented bytes p) ⊎
+    ((slice_get (shown bytes) p ≡ Some b) × (IsCommented bytes p → ⊥))
 shown-cases bytes p b at =
     elim (seen false bytes p b at) [
       | inl h ↦ inl (h.0, commented bytes p h.1)

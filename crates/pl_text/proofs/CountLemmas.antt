@@ -1,12 +1,13 @@
 -- How many brackets the tokens have, and how the fronts of a list of tokens lie.
 use Rattle.std.proofs.Common.{◌≡◌, ◌⊎◌, ℕ, ◌+◌, ◌-◌, ◌≤◌, List, [], ◌∷◌, ◌++◌, length, take, drop, refl, sym, ap, ◌∙◌, subst, arith, inl, inr, append_assoc}
 use Rattle.std.proofs.lemmas.List.{append-nil}
-use Rattle.pl_text.specs.declared.fault.TheConstants.{MAX_DEPTH}
-use Rattle.pl_text.specs.declared.form.Form as form
-use Rattle.pl_text.specs.declared.form.Form.{Form, List', Row_of-Form, end_of-Form, more_of-Form}
+use Rattle.pl_text.specs.Limits.{most_open}
+use Rattle.pl_text.specs.declared.form.Form.{Form}
 use Rattle.pl_text.specs.declared.reading.Opened.{Opened}
 use Rattle.pl_text.specs.Tokens.{Token, Open, Close, Word}
-use Rattle.pl_text.specs.Forms.{flatten, flatten_row, flatten_all}
+use Rattle.pl_text.specs.Trees as tree
+use Rattle.pl_text.specs.Trees.{Tree, Trees, trees_of, written, written_all}
+use Rattle.pl_text.specs.Forms.{flatten_all}
 use Rattle.pl_text.specs.TextFaults.{opens, closes, ClosesNothing}
 use Rattle.pl_text.specs.Reading.{tokens_read, IsQuiet}
 
@@ -46,15 +47,24 @@ split (x ∷ xs) ys [] rest e = inl (record { more = x ∷ xs; first = refl; las
 split (x ∷ xs) ys (y ∷ front) rest e =
     let same = head_same x y _ _ e in
     elim (split xs ys front rest (tail_same x y _ _ e)) [
-      | inl h ↦ inl (record { more = h.more; first = ap (λ t. t ∷ xs) same ∙ ap (λ ts. y ∷ ts) h.first; last = h.last })
-      | inr h ↦ inr (record { more = h.more; first = ap (λ t. t ∷ front) (sym same) ∙ ap (λ ts. x ∷ ts) h.first; last = h.last })
+      | inl h ↦ inl (record {
+        more = h.more;
+        first = ap (λ t. t ∷ xs) same ∙ ap (λ ts. y ∷ ts) h.first;
+        last = h.last;
+      })
+      | inr h ↦ inr (record {
+        more = h.more;
+        first = ap (λ t. t ∷ front) (sym same) ∙ ap (λ ts. x ∷ ts) h.first;
+        last = h.last;
+      })
     ]
 
 -- no front of these tokens has more closes than opens and k more
 abbrev pub AtMost : ℕ → List Token → Type 0
 AtMost k all = (front rest : List Token) → all ≡ front ++ rest → closes front ≤ opens front + k
 
-nothing : (rest : List Token) (k : ℕ) (front : List Token) → [] ≡ front ++ rest → closes front ≤ opens front + k
+nothing : (rest : List Token) (k : ℕ) (front : List Token) → [] ≡ front ++ rest →
+    closes front ≤ opens front + k
 nothing rest k [] e = omega arith
 nothing rest k (x ∷ front) e = absurd (let never : ⊥ = cc in never)
 
@@ -64,21 +74,25 @@ AtMost-nil k front rest e = nothing rest k front e
 AtMost-open : (k at : ℕ) (all : List Token) → AtMost (k + 1) all → AtMost k (Open at ∷ all)
 AtMost-open k at all h [] rest e = omega arith
 AtMost-open k at all h (x ∷ front) rest e =
-    subst (λ t. closes (t ∷ front) ≤ opens (t ∷ front) + k) (head_same _ _ _ _ e) (omega (arith, h front rest (tail_same _ _ _ _ e)))
+    subst (λ t. closes (t ∷ front) ≤ opens (t ∷ front) + k) (head_same _ _ _ _ e)
+    (omega (arith, h front rest (tail_same _ _ _ _ e)))
 
 AtMost-close : (k at : ℕ) (all : List Token) → AtMost k all → AtMost (k + 1) (Close at ∷ all)
 AtMost-close k at all h [] rest e = omega arith
 AtMost-close k at all h (x ∷ front) rest e =
-    subst (λ t. closes (t ∷ front) ≤ opens (t ∷ front) + (k + 1)) (head_same _ _ _ _ e) (omega (arith, h front rest (tail_same _ _ _ _ e)))
+    subst (λ t. closes (t ∷ front) ≤ opens (t ∷ front) + (k + 1)) (head_same _ _ _ _ e)
+    (omega (arith, h front rest (tail_same _ _ _ _ e)))
 
-AtMost-word : (k : ℕ) (word : Token) (all : List Token) → ((front : List Token) → closes (word ∷ front) ≡ closes front) →
+AtMost-word : (k : ℕ) (word : Token) (all : List Token) →
+    ((front : List Token) → closes (word ∷ front) ≡ closes front) →
     ((front : List Token) → opens (word ∷ front) ≡ opens front) → AtMost k all → AtMost k (word ∷ all)
 AtMost-word k word all c o h [] rest e = omega arith
 AtMost-word k word all c o h (x ∷ front) rest e =
     subst (λ t. closes (t ∷ front) ≤ opens (t ∷ front) + k) (head_same _ _ _ _ e)
     (omega (arith, c front, o front, h front rest (tail_same _ _ _ _ e)))
 
-AtMost-append : (k : ℕ) (xs ys : List Token) → AtMost k xs → closes xs ≤ opens xs → AtMost k ys → AtMost k (xs ++ ys)
+AtMost-append : (k : ℕ) (xs ys : List Token) → AtMost k xs → closes xs ≤ opens xs → AtMost k ys →
+    AtMost k (xs ++ ys)
 AtMost-append k xs ys h whole later front rest e =
     elim (split xs ys front rest e) [
       | inl s ↦ h front s.more s.first
@@ -101,29 +115,33 @@ whole_nil : IsWhole []
 whole_nil = record { even = refl; keeps = AtMost-nil }
 
 mutual
-  pub whole : (form : Form) → IsWhole (flatten form)
-  whole (form.Word span) = record {
+  whole : (t : Tree) → IsWhole (written t)
+  whole (tree.word span) = record {
     even = refl;
     keeps = λ k. AtMost-word k (Word span) [] (λ _. refl) (λ _. refl) (AtMost-nil k);
   }
-  whole (List' span shape row) =
-      let inside = whole_row _ row in
-      let end = Close (span.to - 1) ∷ [] in
+  whole (tree.list span trees) =
+      let within = whole_all trees in
+      let last = Close (span.to - 1) ∷ [] in
       record {
-        even = omega (arith, opens-append (flatten_row row) end, closes-append (flatten_row row) end, inside.even);
+        even = omega (
+          arith,
+          opens-append (written_all trees) last,
+          closes-append (written_all trees) last,
+          within.even,
+        );
         keeps =
-            λ k. AtMost-open k span.from (flatten_row row ++ end)
-            (AtMost-append (k + 1) (flatten_row row) end (inside.keeps (k + 1)) (omega (arith, inside.even))
+            λ k. AtMost-open k span.from (written_all trees ++ last)
+            (AtMost-append (k + 1) (written_all trees) last (within.keeps (k + 1))
+            (omega (arith, within.even))
             (AtMost-close k (span.to - 1) [] (AtMost-nil k)));
       }
 
-  whole_row : (n : _) (row : Row_of-Form n) → IsWhole (flatten_row row)
-  whole_row n end_of-Form = whole_nil
-  whole_row n (more_of-Form form rest) = whole_append (flatten form) (flatten_row rest) (whole form) (whole_row _ rest)
-
-pub whole_all : (forms : List Form) → IsWhole (flatten_all forms)
-whole_all [] = whole_nil
-whole_all (form ∷ forms) = whole_append (flatten form) (flatten_all forms) (whole form) (whole_all forms)
+  -- trees close each list that they open
+  pub whole_all : (trees : Trees) → IsWhole (written_all trees)
+  whole_all tree.end = whole_nil
+  whole_all (tree.more first rest) =
+      whole_append (written first) (written_all rest) (whole first) (whole_all rest)
 
 pub nothing_closed : (all : List Token) → AtMost 0 all → ClosesNothing all
 nothing_closed all h front rest e = omega (arith, h front rest e)
@@ -134,11 +152,17 @@ closes_nothing all h front rest e = omega (arith, h front rest e)
 -- the lists that are open are as many as the opens are more than the closes
 pub opens-tokens_read : (lists : List Opened) (done : List Form) →
     opens (tokens_read lists done) ≡ closes (tokens_read lists done) + length lists
-opens-tokens_read [] done = omega (arith, (whole_all done).even)
+opens-tokens_read [] done = omega (arith, (whole_all (trees_of done)).even)
 opens-tokens_read (list ∷ outer) done =
     let before = tokens_read outer (take list.before done) in
     let inside = flatten_all (drop list.before done) in
-    omega (arith, opens-append before (Open list.at ∷ inside), closes-append before (Open list.at ∷ inside), opens-tokens_read outer (take list.before done), (whole_all (drop list.before done)).even)
+    omega (
+      arith,
+      opens-append before (Open list.at ∷ inside),
+      closes-append before (Open list.at ∷ inside),
+      opens-tokens_read outer (take list.before done),
+      (whole_all (trees_of (drop list.before done))).even,
+    )
 
 -- the outermost open list: the forms before it, its bracket, and tokens that do not close it
 pub record Outermost (all : List Token) (at : ℕ) : Type 0 where
@@ -147,12 +171,13 @@ pub record Outermost (all : List Token) (at : ℕ) : Type 0 where
   pub splits : all ≡ flatten_all forms ++ Open at ∷ rest
   pub open_still : ClosesNothing rest
 
-pub outermost : (inner : List Opened) (list : Opened) (done : List Form) → Outermost (tokens_read (inner ++ list ∷ []) done) list.at
+pub outermost : (inner : List Opened) (list : Opened) (done : List Form) →
+    Outermost (tokens_read (inner ++ list ∷ []) done) list.at
 outermost [] list done = record {
   forms = take list.before done;
   rest = flatten_all (drop list.before done);
   splits = refl;
-  open_still = nothing_closed _ ((whole_all (drop list.before done)).keeps 0);
+  open_still = nothing_closed _ ((whole_all (trees_of (drop list.before done))).keeps 0);
 }
 outermost (inmost ∷ inner) list done =
     let around = outermost inner list (take inmost.before done) in
@@ -160,17 +185,19 @@ outermost (inmost ∷ inner) list done =
     record {
       forms = around.forms;
       rest = around.rest ++ inside;
-      splits = ap (λ ts. ts ++ inside) around.splits ∙ append_assoc (flatten_all around.forms) (Open list.at ∷ around.rest) inside;
+      splits = ap (λ ts. ts ++ inside) around.splits ∙
+          append_assoc (flatten_all around.forms) (Open list.at ∷ around.rest) inside;
       open_still =
           nothing_closed _
           (AtMost-append 0 around.rest inside (closes_nothing around.rest around.open_still)
           (around.open_still around.rest [] (sym (append-nil around.rest)))
-          (AtMost-open 0 inmost.at _ ((whole_all (drop inmost.before done)).keeps 1)));
+          (AtMost-open 0 inmost.at _ ((whole_all (trees_of (drop inmost.before done))).keeps 1)));
     }
 
 -- one token more
 pub IsQuiet-push : (all : List Token) (token : Token) → IsQuiet all →
-    closes (all ++ token ∷ []) ≤ opens (all ++ token ∷ []) → opens (all ++ token ∷ []) ≤ closes (all ++ token ∷ []) + MAX_DEPTH →
+    closes (all ++ token ∷ []) ≤ opens (all ++ token ∷ []) →
+    opens (all ++ token ∷ []) ≤ closes (all ++ token ∷ []) + most_open →
     IsQuiet (all ++ token ∷ [])
 IsQuiet-push all token quiet low high front rest e =
     elim (split all (token ∷ []) front rest e) [
@@ -179,9 +206,10 @@ IsQuiet-push all token quiet low high front rest e =
     ]
   where
     by_more : (more : List Token) → front ≡ all ++ more → token ∷ [] ≡ more ++ rest →
-        (closes front ≤ opens front) × (opens front ≤ closes front + MAX_DEPTH)
+        (closes front ≤ opens front) × (opens front ≤ closes front + most_open)
     by_more [] first last = quiet front [] (sym (append-nil all) ∙ sym first ∙ sym (append-nil front))
     by_more (x ∷ []) first last =
-        let same : all ++ token ∷ [] ≡ front = ap (λ t. all ++ t ∷ []) (head_same token x _ _ last) ∙ sym first in
-        subst (λ f. (closes f ≤ opens f) × (opens f ≤ closes f + MAX_DEPTH)) same (low, high)
+        let same : all ++ token ∷ [] ≡ front = ap (λ t. all ++ t ∷ []) (head_same token x _ _ last) ∙
+        sym first in
+        subst (λ f. (closes f ≤ opens f) × (opens f ≤ closes f + most_open)) same (low, high)
     by_more (x ∷ y ∷ more) first last = absurd (let never : ⊥ = cc (tail_same token x _ _ last) in never)

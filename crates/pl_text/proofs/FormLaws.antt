@@ -1,14 +1,11 @@
 -- How the definitions that go over forms are read at a list of the program, `form.List span forms`, whose elements are
 -- the items of a `Vec`.
-use mathlib.Core.Former.{Count}
-use Rattle.std.proofs.Common.{◌≡◌, ◌↔◌, ℕ, ◌+◌, ◌-◌, ◌≤◌, List, [], ◌∷◌, ◌++◌, map, All, Vec, Global, refl, sym, ap, ◌∙◌, subst, append_assoc}
+use Rattle.std.proofs.Common.{◌≡◌, ◌↔◌, ℕ, ◌+◌, ◌-◌, ◌≤◌, List, ◌∷◌, map, All, Vec, Global, refl, sym, ap, ◌∙◌, subst}
 use Rattle.std.proofs.lemmas.List.Elements.{All-nil, All-cons, All-head, All-tail}
 use Rattle.pl_text.specs.declared.form.Span.{Span}
 use Rattle.pl_text.specs.declared.form.Form as form
 use Rattle.pl_text.specs.declared.form.Form.{Form, Word, List', Row_of-Form, end_of-Form, more_of-Form, items-the_row-Form, items_hidden-the_row-Form-0}
-use Rattle.pl_text.specs.Tokens as token
-use Rattle.pl_text.specs.Tokens.{Token}
-use Rattle.pl_text.specs.Forms.{span_of, elements, fold_form, fold_row, Every, EveryInRow, flatten, flatten_row, flatten_all}
+use Rattle.pl_text.specs.Forms.{span_of, elements, fold_form, fold_row, Every, EveryInRow}
 use Rattle.pl_text.specs.Spans.{IsWithin, ArePlaced, HoldsElements, IsPlaced}
 
 -- the elements of a list of the program
@@ -16,7 +13,8 @@ pub elements-List : (span : Span) (forms : Vec Form Global) → elements (form.L
 elements-List span forms = items_hidden-the_row-Form-0 forms
 
 module _ {A : Type 0} (step : Form → List A → A) where
-  fold_row-is : (n : _) (row : Row_of-Form n) → fold_row step row ≡ map (fold_form step) (items-the_row-Form n row)
+  fold_row-is : (n : _) (row : Row_of-Form n) →
+      fold_row step row ≡ map (fold_form step) (items-the_row-Form n row)
   fold_row-is n end_of-Form = refl
   fold_row-is n (more_of-Form form rest) = ap (λ rest. fold_form step form ∷ rest) (fold_row-is _ rest)
 
@@ -37,7 +35,8 @@ module _ (P : Form → Type 0) where
   EveryInRow-to n end_of-Form h = All-nil (Every P)
   EveryInRow-to n (more_of-Form form rest) h = All-cons (Every P) form _ h.0 (EveryInRow-to _ rest h.1)
 
-  EveryInRow-from : (n : _) (row : Row_of-Form n) → All (Every P) (items-the_row-Form n row) → EveryInRow P row
+  EveryInRow-from : (n : _) (row : Row_of-Form n) → All (Every P) (items-the_row-Form n row) →
+      EveryInRow P row
   EveryInRow-from n end_of-Form h = tt
   EveryInRow-from n (more_of-Form form rest) h =
       (All-head (Every P) form _ h, EveryInRow-from _ rest (All-tail (Every P) form _ h))
@@ -53,20 +52,26 @@ module _ (P : Form → Type 0) where
       Every P (form.List span forms) ↔ (P (form.List span forms) × All (Every P) forms.items)
   Every-List span forms =
       let is = elements-List span forms in (
-        λ h. (((Every-is (form.List span forms)).0 h).0, subst (All (Every P)) is ((Every-is (form.List span forms)).0 h).1),
+        λ h. (
+          ((Every-is (form.List span forms)).0 h).0,
+          subst (All (Every P)) is ((Every-is (form.List span forms)).0 h).1,
+        ),
         λ h. (Every-is (form.List span forms)).1 (h.0, subst (All (Every P)) (sym is) h.1),
       )
 
 -- the spans in a list of the program end by the place `high` where its own does and those in its elements do
 pub IsWithin-List : (high : ℕ) (span : Span) (forms : Vec Form Global) →
-    IsWithin high (form.List span forms) ↔ ((span.from ≤ span.to) × (span.to ≤ high) × All (IsWithin high) forms.items)
+    IsWithin high (form.List span forms) ↔
+    ((span.from ≤ span.to) × (span.to ≤ high) × All (IsWithin high) forms.items)
 IsWithin-List high span forms =
-    let parts = Every-List (λ part. ((span_of part).from ≤ (span_of part).to) × ((span_of part).to ≤ high)) span forms in
+    let parts = Every-List
+    (λ part. ((span_of part).from ≤ (span_of part).to) × ((span_of part).to ≤ high)) span forms in
     (λ h. ((parts.0 h).0.0, (parts.0 h).0.1, (parts.0 h).1), λ h. parts.1 ((h.0, h.1), h.2))
 
 -- the elements of a list of the program lie between its brackets
 pub IsPlaced-List : (span : Span) (forms : Vec Form Global) →
-    IsPlaced (form.List span forms) ↔ (ArePlaced (span.from + 1) (span.to - 1) forms.items × All IsPlaced forms.items)
+    IsPlaced (form.List span forms) ↔
+    (ArePlaced (span.from + 1) (span.to - 1) forms.items × All IsPlaced forms.items)
 IsPlaced-List span forms =
     let parts = Every-List HoldsElements span forms in
     let is = elements-List span forms in (
@@ -84,24 +89,3 @@ module _ (P Q : Form → Type 0) (follows : (form : Form) → P form → Q form)
     EveryInRow-map : (n : _) (row : Row_of-Form n) → EveryInRow P row → EveryInRow Q row
     EveryInRow-map n end_of-Form h = tt
     EveryInRow-map n (more_of-Form form rest) h = (Every-map form h.0, EveryInRow-map _ rest h.1)
-
-pub flatten_row-is : (n : _) (row : Row_of-Form n) → flatten_row row ≡ flatten_all (items-the_row-Form n row)
-flatten_row-is n end_of-Form = refl
-flatten_row-is n (more_of-Form form rest) = ap (λ rest. flatten form ++ rest) (flatten_row-is _ rest)
-
-abbrev row_of : Form → (n : Count) × Row_of-Form n
-row_of (Word span) = (_, end_of-Form)
-row_of (List' span shape row) = (_, row)
-
--- the tokens of a list of the program
-pub flatten-List : (span : Span) (forms : Vec Form Global) →
-    flatten (form.List span forms) ≡ token.Open span.from ∷ flatten_all forms.items ++ token.Close (span.to - 1) ∷ []
-flatten-List span forms =
-    let row = row_of (form.List span forms) in
-    ap (λ inside. token.Open span.from ∷ inside ++ token.Close (span.to - 1) ∷ [])
-    (flatten_row-is row.0 row.1 ∙ ap flatten_all (elements-List span forms))
-
-pub flatten_all-append : (xs ys : List Form) → flatten_all (xs ++ ys) ≡ flatten_all xs ++ flatten_all ys
-flatten_all-append [] ys = refl
-flatten_all-append (x ∷ xs) ys =
-    ap (λ rest. flatten x ++ rest) (flatten_all-append xs ys) ∙ sym (append_assoc (flatten x) (flatten_all xs) (flatten_all ys))

@@ -1,5 +1,7 @@
--- laws on forms, for the crates above too
+-- laws on forms and trees, for the crates above too
 pub mod FormLaws
+pub mod TreeLaws
+pub mod TreePlaceLaws
 mod NestingLemmas
 mod CommentLemmas
 mod TokenLemmas

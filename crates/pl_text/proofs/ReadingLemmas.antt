@@ -4,7 +4,7 @@ use Rattle.std.proofs.Math.Seq.{take-add, drop-cons, drop-length}
 use Rattle.std.proofs.lemmas.List.{append-nil, drop-drop, length-reverse, reverse-append}
 use Rattle.std.proofs.lemmas.List.Elements.{All-append, All-nil}
 use Rattle.std.proofs.lemmas.Option.{none-some, same_Some, slice_get-get_or}
-use Rattle.pl_text.specs.declared.fault.TheConstants.{MAX_DEPTH}
+use Rattle.pl_text.specs.Limits.{most_open}
 use Rattle.pl_text.specs.declared.fault.TextFault.TheVariants.{BadByte, StrayClose, TooDeep, Unclosed}
 use Rattle.pl_text.specs.declared.fault.TextEnd.{TextEnd}
 use Rattle.pl_text.specs.declared.fault.TextEnd.TheVariants.{Fault, Memory}
@@ -23,9 +23,11 @@ use Rattle.pl_text.proofs.CountLemmas.{opens-append, closes-append, opens-tokens
 use Rattle.pl_text.proofs.FaultLemmas.{NoEarlier, bad_late, bad_shown, stray_late, deep_late, gives_bad, gives_stray, gives_deep, gives_unclosed, faultless}
 
 -- the byte that is read, and those after it
-pub byte_at : (bytes : List ℕ) (at b : ℕ) → at < length bytes → b ≡ get_or bytes at 0 → drop at bytes ≡ b ∷ drop (at + 1) bytes
+pub byte_at : (bytes : List ℕ) (at b : ℕ) → at < length bytes → b ≡ get_or bytes at 0 →
+    drop at bytes ≡ b ∷ drop (at + 1) bytes
 byte_at bytes at b within is =
-    drop-cons bytes at 0 within ∙ ap (λ x. x ∷ drop (suc at) bytes) (sym is) ∙ ap (λ n. b ∷ drop n bytes) (sym (add-one at))
+    drop-cons bytes at 0 within ∙ ap (λ x. x ∷ drop (suc at) bytes) (sym is) ∙
+    ap (λ n. b ∷ drop n bytes) (sym (add-one at))
 
 quiet_nil : IsQuiet []
 quiet_nil [] rest e = (omega arith, omega arith)
@@ -42,18 +44,22 @@ read-none bytes = record {
   quiet = quiet_nil;
 }
 
-module _ (bytes : List ℕ) (at n : ℕ) (lists : List Opened) (done : List Form) (reading : IsRead bytes at lists done) where
+module _ (bytes : List ℕ) (at n : ℕ) (lists : List Opened) (done : List Form)
+    (reading : IsRead bytes at lists done) where
   rest_is : drop (at + n) bytes ≡ drop n (drop at bytes)
   rest_is = sym (drop-drop n at bytes)
 
-  outside : (extra : List Token) → GoesOn at n (drop at bytes) extra → drop (at + n) (shown bytes) ≡ shown (drop (at + n) bytes)
+  outside : (extra : List Token) → GoesOn at n (drop at bytes) extra →
+      drop (at + n) (shown bytes) ≡ shown (drop (at + n) bytes)
   outside extra goes =
       sym (drop-drop n at (shown bytes)) ∙ ap (drop n) reading.outside ∙ goes.shows ∙ ap shown (sym rest_is)
 
   clean : (extra : List Token) → GoesOn at n (drop at bytes) extra → IsClean (take (at + n) (shown bytes))
   clean extra goes =
-      subst IsClean (sym (take-add at n (shown bytes) ∙ ap (λ list. take at (shown bytes) ++ take n list) reading.outside))
-      (All-append (λ b. is_bad_byte b ≡ false) (take at (shown bytes)) (take n (shown (drop at bytes))) reading.clean goes.clean)
+      subst IsClean (sym (take-add at n (shown bytes) ∙
+      ap (λ list. take at (shown bytes) ++ take n list) reading.outside))
+      (All-append (λ b. is_bad_byte b ≡ false) (take at (shown bytes))
+      (take n (shown (drop at bytes))) reading.clean goes.clean)
 
   -- over bytes that hold no token
   pub read-over : GoesOn at n (drop at bytes) [] → at + n ≤ length bytes → IsRead bytes (at + n) lists done
@@ -70,15 +76,17 @@ module _ (bytes : List ℕ) (at n : ℕ) (lists : List Opened) (done : List Form
   }
 
   -- over a token
-  pub read-on : (new_lists : List Opened) (new_done : List Form) (token : Token) → GoesOn at n (drop at bytes) (token ∷ []) →
-      at + n ≤ length bytes → AddsToken lists new_lists done new_done token → IsRead bytes (at + n) new_lists new_done
+  pub read-on : (new_lists : List Opened) (new_done : List Form) (token : Token) →
+      GoesOn at n (drop at bytes) (token ∷ []) →
+      at + n ≤ length bytes → AddsToken lists new_lists done new_done token →
+      IsRead bytes (at + n) new_lists new_done
   read-on new_lists new_done token goes within adds =
       let old = tokens_read (reverse lists) done in
       let new = tokens_read (reverse new_lists) new_done in
       let count : opens new ≡ closes new + length new_lists =
       omega (arith, opens-tokens_read (reverse new_lists) new_done, length-reverse new_lists)
       in
-      let few : length new_lists ≤ MAX_DEPTH = adds.kept.depth in
+      let few : length new_lists ≤ most_open = adds.kept.depth in
       record {
         in_file = within;
         outside = outside (token ∷ []) goes;
@@ -94,53 +102,70 @@ module _ (bytes : List ℕ) (at n : ℕ) (lists : List Opened) (done : List Form
             subst IsQuiet (sym adds.read)
             (IsQuiet-push old token reading.quiet
             (subst (λ ts. closes ts ≤ opens ts) adds.read (omega arith))
-            (subst (λ ts. opens ts ≤ closes ts + MAX_DEPTH) adds.read (omega arith)));
+            (subst (λ ts. opens ts ≤ closes ts + most_open) adds.read (omega arith)));
       }
 
 -- one step of a reading, by what stands at its place
-module _ (bytes : List ℕ) (at b : ℕ) (lists : List Opened) (done : List Form) (reading : IsRead bytes at lists done)
+module _ (bytes : List ℕ) (at b : ℕ) (lists : List Opened) (done : List Form)
+    (reading : IsRead bytes at lists done)
     (within : at < length bytes) (is : b ≡ get_or bytes at 0) where
   here : drop at bytes ≡ b ∷ drop (at + 1) bytes
   here = byte_at bytes at b within is
 
-  goes : (n : ℕ) (extra : List Token) → GoesOn at n (b ∷ drop (at + 1) bytes) extra → GoesOn at n (drop at bytes) extra
+  goes : (n : ℕ) (extra : List Token) → GoesOn at n (b ∷ drop (at + 1) bytes) extra →
+      GoesOn at n (drop at bytes) extra
   goes n extra h = subst (λ list. GoesOn at n list extra) (sym here) h
 
-  pub step-open : (new_lists : List Opened) (new_done : List Form) → b ≡ 40 → AddsToken lists new_lists done new_done (Open at) →
+  pub step-open : (new_lists : List Opened) (new_done : List Form) → b ≡ 40 →
+      AddsToken lists new_lists done new_done (Open at) →
       IsRead bytes (at + 1) new_lists new_done
   step-open new_lists new_done kind adds =
       read-on bytes at 1 lists done reading new_lists new_done (Open at)
-      (goes 1 (Open at ∷ []) (subst (λ b. GoesOn at 1 (b ∷ drop (at + 1) bytes) (Open at ∷ [])) (sym kind) (goes_on-open at (drop (at + 1) bytes))))
+      (goes 1 (Open at ∷ [])
+      (subst (λ b. GoesOn at 1 (b ∷ drop (at + 1) bytes) (Open at ∷ [])) (sym kind)
+      (goes_on-open at (drop (at + 1) bytes))))
       (omega arith) adds
 
-  pub step-close : (new_lists : List Opened) (new_done : List Form) → b ≡ 41 → AddsToken lists new_lists done new_done (Close at) →
+  pub step-close : (new_lists : List Opened) (new_done : List Form) → b ≡ 41 →
+      AddsToken lists new_lists done new_done (Close at) →
       IsRead bytes (at + 1) new_lists new_done
   step-close new_lists new_done kind adds =
       read-on bytes at 1 lists done reading new_lists new_done (Close at)
-      (goes 1 (Close at ∷ []) (subst (λ b. GoesOn at 1 (b ∷ drop (at + 1) bytes) (Close at ∷ [])) (sym kind) (goes_on-close at (drop (at + 1) bytes))))
+      (goes 1 (Close at ∷ [])
+      (subst (λ b. GoesOn at 1 (b ∷ drop (at + 1) bytes) (Close at ∷ [])) (sym kind)
+      (goes_on-close at (drop (at + 1) bytes))))
       (omega arith) adds
 
   pub step-blank : is_blank b ≡ true → IsRead bytes (at + 1) lists done
-  step-blank kind = read-over bytes at 1 lists done reading (goes 1 [] (goes_on-blank at b (drop (at + 1) bytes) kind)) (omega arith)
+  step-blank kind = read-over bytes at 1 lists done reading
+      (goes 1 [] (goes_on-blank at b (drop (at + 1) bytes) kind)) (omega arith)
 
-  pub step-comment : (next : ℕ) → b ≡ 59 → next ≡ at + line_length (drop at bytes) → next ≤ length bytes → IsRead bytes next lists done
+  pub step-comment : (next : ℕ) → b ≡ 59 → next ≡ at + line_length (drop at bytes) → next ≤ length bytes →
+      IsRead bytes next lists done
   step-comment next kind next_is le =
-      let same : b ∷ drop (at + 1) bytes ≡ 59 ∷ drop (at + 1) bytes = ap (λ b. b ∷ drop (at + 1) bytes) kind in
-      let n : next ≡ at + line_length (59 ∷ drop (at + 1) bytes) = next_is ∙ ap (λ list. at + line_length list) (here ∙ same) in
+      let same : b ∷ drop (at + 1) bytes ≡ 59 ∷ drop (at + 1) bytes =
+      ap (λ b. b ∷ drop (at + 1) bytes) kind in
+      let n : next ≡ at + line_length (59 ∷ drop (at + 1) bytes) = next_is ∙
+      ap (λ list. at + line_length list) (here ∙ same) in
       subst (λ p. IsRead bytes p lists done) (sym n)
       (read-over bytes at (line_length (59 ∷ drop (at + 1) bytes)) lists done reading
-      (subst (λ list. GoesOn at (line_length (59 ∷ drop (at + 1) bytes)) list []) (sym (here ∙ same)) (goes_on-comment at (drop (at + 1) bytes)))
+      (subst (λ list. GoesOn at (line_length (59 ∷ drop (at + 1) bytes)) list []) (sym (here ∙ same))
+      (goes_on-comment at (drop (at + 1) bytes)))
       (subst (λ p. p ≤ length bytes) n le))
 
   pub step-word : (next : ℕ) (new_lists : List Opened) (new_done : List Form) → is_word_byte b ≡ true →
       next ≡ at + run_length (drop at bytes) → next ≤ length bytes →
-      AddsToken lists new_lists done new_done (Word (record { from = at; to = next })) → IsRead bytes next new_lists new_done
+      AddsToken lists new_lists done new_done (Word (record { from = at; to = next })) →
+      IsRead bytes next new_lists new_done
   step-word next new_lists new_done kind next_is le adds =
-      let n : next ≡ at + run_length (b ∷ drop (at + 1) bytes) = next_is ∙ ap (λ list. at + run_length list) here in
+      let n : next ≡ at + run_length (b ∷ drop (at + 1) bytes) = next_is ∙
+      ap (λ list. at + run_length list) here in
       let p = at + run_length (b ∷ drop (at + 1) bytes) in
       subst (λ p. IsRead bytes p new_lists new_done) (sym n)
-      (read-on bytes at (run_length (b ∷ drop (at + 1) bytes)) lists done reading new_lists new_done (Word (record { from = at; to = p }))
-      (goes (run_length (b ∷ drop (at + 1) bytes)) (Word (record { from = at; to = p }) ∷ []) (goes_on-word at b (drop (at + 1) bytes) kind))
+      (read-on bytes at (run_length (b ∷ drop (at + 1) bytes)) lists done reading new_lists new_done
+      (Word (record { from = at; to = p }))
+      (goes (run_length (b ∷ drop (at + 1) bytes)) (Word (record { from = at; to = p }) ∷ [])
+      (goes_on-word at b (drop (at + 1) bytes) kind))
       (subst (λ p. p ≤ length bytes) n le)
       (subst (λ p. AddsToken lists new_lists done new_done (Word (record { from = at; to = p }))) n adds))
 
@@ -148,10 +173,12 @@ module _ (bytes : List ℕ) (at b : ℕ) (lists : List Opened) (done : List Form
   none_earlier = record {
     bad = bad_late bytes at reading.clean;
     stray =
-        stray_late at (at + length (shown (drop at bytes))) (tokens bytes) (tokens_read (reverse lists) done) (tokens_from at false (shown (drop at bytes)))
+        stray_late at (at + length (shown (drop at bytes))) (tokens bytes)
+        (tokens_read (reverse lists) done) (tokens_from at false (shown (drop at bytes)))
         reading.read (Rises-from at (shown (drop at bytes))) reading.quiet;
     deep =
-        deep_late at (at + length (shown (drop at bytes))) (tokens bytes) (tokens_read (reverse lists) done) (tokens_from at false (shown (drop at bytes)))
+        deep_late at (at + length (shown (drop at bytes))) (tokens bytes) (tokens_read (reverse lists) done)
+        (tokens_from at false (shown (drop at bytes)))
         reading.read (Rises-from at (shown (drop at bytes))) reading.quiet;
   }
 
@@ -159,15 +186,19 @@ module _ (bytes : List ℕ) (at b : ℕ) (lists : List Opened) (done : List Form
   counts = omega (arith, opens-tokens_read (reverse lists) done, length-reverse lists)
 
   splits : (token : Token) → GoesOn at 1 (b ∷ drop (at + 1) bytes) (token ∷ []) →
-      tokens bytes ≡ tokens_read (reverse lists) done ++ token ∷ tokens_from (at + 1) false (shown (drop 1 (drop at bytes)))
-  splits token h = sym reading.read ∙ ap (λ ts. tokens_read (reverse lists) done ++ ts) (goes 1 (token ∷ []) h).tokens
+      tokens bytes ≡ tokens_read (reverse lists) done ++ token ∷ tokens_from (at + 1) false
+      (shown (drop 1 (drop at bytes)))
+  splits token h = sym reading.read ∙
+      ap (λ ts. tokens_read (reverse lists) done ++ ts) (goes 1 (token ∷ []) h).tokens
 
   pub ends-stray : b ≡ 41 → lists ≡ [] → IsGivenFault bytes (StrayClose at)
   ends-stray kind none =
       gives_stray bytes at none_earlier (record {
         before = tokens_read (reverse lists) done;
         rest = tokens_from (at + 1) false (shown (drop 1 (drop at bytes)));
-        splits = splits (Close at) (subst (λ b. GoesOn at 1 (b ∷ drop (at + 1) bytes) (Close at ∷ [])) (sym kind) (goes_on-close at (drop (at + 1) bytes)));
+        splits = splits (Close at)
+            (subst (λ b. GoesOn at 1 (b ∷ drop (at + 1) bytes) (Close at ∷ [])) (sym kind)
+            (goes_on-close at (drop (at + 1) bytes)));
         outnumbered =
             omega (
               arith,
@@ -178,12 +209,14 @@ module _ (bytes : List ℕ) (at b : ℕ) (lists : List Opened) (done : List Form
             );
       })
 
-  pub ends-deep : b ≡ 40 → length lists ≡ MAX_DEPTH → IsGivenFault bytes (TooDeep at)
+  pub ends-deep : b ≡ 40 → length lists ≡ most_open → IsGivenFault bytes (TooDeep at)
   ends-deep kind many =
       gives_deep bytes at none_earlier (record {
         before = tokens_read (reverse lists) done;
         rest = tokens_from (at + 1) false (shown (drop 1 (drop at bytes)));
-        splits = splits (Open at) (subst (λ b. GoesOn at 1 (b ∷ drop (at + 1) bytes) (Open at ∷ [])) (sym kind) (goes_on-open at (drop (at + 1) bytes)));
+        splits = splits (Open at)
+            (subst (λ b. GoesOn at 1 (b ∷ drop (at + 1) bytes) (Open at ∷ [])) (sym kind)
+            (goes_on-open at (drop (at + 1) bytes)));
         deep =
             omega (
               arith,
@@ -200,9 +233,11 @@ module _ (bytes : List ℕ) (at b : ℕ) (lists : List Opened) (done : List Form
       reading.outside ∙ ap shown here ∙ shown-cons b (drop (at + 1) bytes) other
       in
       gives_bad bytes at none_earlier
-      (bad_shown bytes at b (slice_get-get_or bytes at 0 within ∙ ap Some (sym is)) (first_dropped (shown bytes) at b _ shows) bad)
+      (bad_shown bytes at b (slice_get-get_or bytes at 0 within ∙ ap Some (sym is))
+      (first_dropped (shown bytes) at b _ shows) bad)
     where
-      first_dropped : (list : List ℕ) (n b : ℕ) (rest : List ℕ) → drop n list ≡ b ∷ rest → slice_get list n ≡ Some b
+      first_dropped : (list : List ℕ) (n b : ℕ) (rest : List ℕ) → drop n list ≡ b ∷ rest →
+          slice_get list n ≡ Some b
       first_dropped [] zero b rest e = absurd (let never : ⊥ = cc in never)
       first_dropped [] (suc n) b rest e = absurd (let never : ⊥ = cc in never)
       first_dropped (x ∷ list) zero b rest e = cc
@@ -217,11 +252,13 @@ first_some x [] e = absurd (none-some x (sym e))
 first_some x (y ∷ xs) e = ap (λ z. z ∷ xs) (sym (same_Some x y e))
 
 -- a reading that came to the end of the file
-module _ (bytes : List ℕ) (lists : List Opened) (done : List Form) (reading : IsRead bytes (length bytes) lists done) where
+module _ (bytes : List ℕ) (lists : List Opened) (done : List Form)
+    (reading : IsRead bytes (length bytes) lists done) where
   all_read : tokens_read (reverse lists) done ≡ tokens bytes
   all_read =
       sym (append-nil (tokens_read (reverse lists) done)) ∙
-      ap (λ list. tokens_read (reverse lists) done ++ tokens_from (length bytes) false (shown list)) (sym (drop-length bytes)) ∙
+      ap (λ list. tokens_read (reverse lists) done ++ tokens_from (length bytes) false (shown list))
+      (sym (drop-length bytes)) ∙
       reading.read
 
   pub end-forms : lists ≡ [] → AreFormsOf bytes done
@@ -229,21 +266,28 @@ module _ (bytes : List ℕ) (lists : List Opened) (done : List Form) (reading : 
 
   pub end-faultless : lists ≡ [] → IsFaultless bytes
   end-faultless none =
-      faultless bytes done (bad_late bytes (length bytes) reading.clean) (subst IsQuiet all_read reading.quiet) (end-forms none)
+      faultless bytes done (bad_late bytes (length bytes) reading.clean)
+      (subst IsQuiet all_read reading.quiet) (end-forms none)
 
-  pub end-unclosed : (list : Opened) (inner : List Opened) → lists ≡ list ∷ inner → IsGivenFault bytes (Unclosed list.at)
+  pub end-unclosed : (list : Opened) (inner : List Opened) → lists ≡ list ∷ inner →
+      IsGivenFault bytes (Unclosed list.at)
   end-unclosed list inner is =
-      let turned : reverse lists ≡ reverse inner ++ list ∷ [] = ap reverse is ∙ reverse-append (list ∷ []) inner in
-      gives_unclosed bytes list.at (bad_late bytes (length bytes) reading.clean) (subst IsQuiet all_read reading.quiet)
-      (subst (λ ts. Outermost ts list.at) (ap (λ ls. tokens_read ls done) (sym turned) ∙ all_read) (outermost (reverse inner) list done))
+      let turned : reverse lists ≡ reverse inner ++ list ∷ [] = ap reverse is ∙
+      reverse-append (list ∷ []) inner in
+      gives_unclosed bytes list.at (bad_late bytes (length bytes) reading.clean)
+      (subst IsQuiet all_read reading.quiet)
+      (subst (λ ts. Outermost ts list.at) (ap (λ ls. tokens_read ls done) (sym turned) ∙ all_read)
+      (outermost (reverse inner) list done))
 
 -- what was refused ends a reading by its fault, or out of memory
-pub ends-enter : (bytes : List ℕ) (at : ℕ) (lists : List Opened) (end : TextEnd) → ((length lists ≡ MAX_DEPTH) → IsGivenFault bytes (TooDeep at)) →
+pub ends-enter : (bytes : List ℕ) (at : ℕ) (lists : List Opened) (end : TextEnd) →
+    ((length lists ≡ most_open) → IsGivenFault bytes (TooDeep at)) →
     CannotEnter lists at end → EndsBy bytes end
 ends-enter bytes at lists (Fault fault) gives h = subst (IsGivenFault bytes) (sym h.0) (gives h.1)
 ends-enter bytes at lists (Memory error) gives h = tt
 
-pub ends-leave : (bytes : List ℕ) (at : ℕ) (lists : List Opened) (end : TextEnd) → (lists ≡ [] → IsGivenFault bytes (StrayClose at)) →
+pub ends-leave : (bytes : List ℕ) (at : ℕ) (lists : List Opened) (end : TextEnd) →
+    (lists ≡ [] → IsGivenFault bytes (StrayClose at)) →
     CannotLeave lists at end → EndsBy bytes end
 ends-leave bytes at lists (Fault fault) gives h = subst (IsGivenFault bytes) (sym h.0) (gives h.1)
 ends-leave bytes at lists (Memory error) gives h = tt

@@ -14,12 +14,14 @@ pub run_length-le : (bytes : List ℕ) → run_length bytes ≤ length bytes
 run_length-le [] = omega arith
 run_length-le (b ∷ bytes) = by_test (is_word_byte b) refl (run_length-le bytes)
   where
-    by_test : (t : Bool) → is_word_byte b ≡ t → run_length bytes ≤ length bytes → run_length (b ∷ bytes) ≤ length (b ∷ bytes)
+    by_test : (t : Bool) → is_word_byte b ≡ t → run_length bytes ≤ length bytes →
+        run_length (b ∷ bytes) ≤ length (b ∷ bytes)
     by_test true h le = omega (arith, run_length-word b bytes h)
     by_test false h le = omega (arith, run_length-other b bytes h)
 
 -- a byte that is no word byte begins a bracket or nothing
-rises_by : (at high : ℕ) (after : Bool) (bytes : List ℕ) (rest : List Token) (left right : Bool) → Rises (at + 1) high rest →
+rises_by : (at high : ℕ) (after : Bool) (bytes : List ℕ) (rest : List Token) (left right : Bool) →
+    Rises (at + 1) high rest →
     Rises at high (token_by at after bytes false left right ++ rest)
 rises_by at high after bytes rest true right h = (omega arith, omega arith, h)
 rises_by at high after bytes rest false true h = (omega arith, omega arith, h)
@@ -38,23 +40,29 @@ risen at (b ∷ bytes) = by_test (is_word_byte b) refl (risen (at + 1) bytes)
 
     by_test : (t : Bool) → is_word_byte b ≡ t → Risen (at + 1) bytes → Risen at (b ∷ bytes)
     by_test true h later =
-        let inner : Rises (at + 1 + run_length bytes) (at + length (b ∷ bytes)) (tokens_from (at + 1) true bytes) =
+        let inner : Rises (at + 1 + run_length bytes) (at + length (b ∷ bytes))
+        (tokens_from (at + 1) true bytes) =
         subst (λ n. Rises (at + 1 + run_length bytes) n (tokens_from (at + 1) true bytes)) high later.in_word
         in
         record {
-          outside = subst (Rises at (at + length (b ∷ bytes))) (sym (from-word at b bytes h)) (omega arith, omega arith, inner);
+          outside = subst (Rises at (at + length (b ∷ bytes))) (sym (from-word at b bytes h))
+              (omega arith, omega arith, inner);
           in_word =
               subst (λ n. Rises n (at + length (b ∷ bytes)) (tokens_from at true (b ∷ bytes)))
-              (let e : at + 1 + run_length bytes ≡ at + run_length (b ∷ bytes) = omega (arith, run_length-word b bytes h) in e)
-              (subst (Rises (at + 1 + run_length bytes) (at + length (b ∷ bytes))) (sym (from-inner at b bytes h)) inner);
+              (let e : at + 1 + run_length bytes ≡ at + run_length (b ∷ bytes) =
+              omega (arith, run_length-word b bytes h) in e)
+              (subst (Rises (at + 1 + run_length bytes) (at + length (b ∷ bytes)))
+              (sym (from-inner at b bytes h)) inner);
         }
     by_test false h later =
         let rest : Rises (at + 1) (at + length (b ∷ bytes)) (tokens_from (at + 1) false bytes) =
         subst (λ n. Rises (at + 1) n (tokens_from (at + 1) false bytes)) high later.outside
         in
         let out : Rises at (at + length (b ∷ bytes)) (tokens_from at false (b ∷ bytes)) =
-        subst (Rises at (at + length (b ∷ bytes))) (sym (from-cons at false b bytes false (eqb b 40) (eqb b 41) h refl refl))
-        (rises_by at (at + length (b ∷ bytes)) false bytes (tokens_from (at + 1) false bytes) (eqb b 40) (eqb b 41) rest)
+        subst (Rises at (at + length (b ∷ bytes)))
+        (sym (from-cons at false b bytes false (eqb b 40) (eqb b 41) h refl refl))
+        (rises_by at (at + length (b ∷ bytes)) false bytes (tokens_from (at + 1) false bytes) (eqb b 40)
+        (eqb b 41) rest)
         in
         record {
           outside = out;
@@ -70,17 +78,21 @@ Rises-from at bytes = (risen at bytes).outside
 
 pub Rises-tokens : (bytes : List ℕ) → Rises 0 (length bytes) (tokens bytes)
 Rises-tokens bytes =
-    subst (λ n. Rises 0 n (tokens bytes)) (let e : 0 + length (shown bytes) ≡ length bytes = omega (arith, length-view false bytes) in e)
+    subst (λ n. Rises 0 n (tokens bytes))
+    (let e : 0 + length (shown bytes) ≡ length bytes = omega (arith, length-view false bytes) in e)
     (Rises-from 0 (shown bytes))
 
 -- each of rising tokens stands at or after the lower end
-pub Rises-place : (low high : ℕ) (before : List Token) (token : Token) (rest : List Token) → Rises low high (before ++ token ∷ rest) →
+pub Rises-place : (low high : ℕ) (before : List Token) (token : Token) (rest : List Token) →
+    Rises low high (before ++ token ∷ rest) →
     low ≤ place_of token
 Rises-place low high [] token rest h = h.0
-Rises-place low high (first ∷ before) token rest h = omega (arith, h.0, h.1, Rises-place (end_of first) high before token rest h.2)
+Rises-place low high (first ∷ before) token rest h =
+    omega (arith, h.0, h.1, Rises-place (end_of first) high before token rest h.2)
 
 -- rising tokens rise from each of them on
-pub Rises-after : (low high : ℕ) (before : List Token) (token : Token) (rest : List Token) → Rises low high (before ++ token ∷ rest) →
+pub Rises-after : (low high : ℕ) (before : List Token) (token : Token) (rest : List Token) →
+    Rises low high (before ++ token ∷ rest) →
     Rises (place_of token) high (token ∷ rest)
 Rises-after low high [] token rest h = (omega arith, h.1, h.2)
 Rises-after low high (first ∷ before) token rest h = Rises-after (end_of first) high before token rest h.2

@@ -28,15 +28,18 @@ record Begins (at : ℕ) (after : Bool) (bytes : List ℕ) (token : Token) : Typ
 none_contained : {A : Type 0} (x : A) → Contains [] x → ⊥
 none_contained x h = omega (arith, h.1)
 
-begins-from : (at : ℕ) (after : Bool) (bytes : List ℕ) (token : Token) → Contains (tokens_from at after bytes) token → Begins at after bytes token
+begins-from : (at : ℕ) (after : Bool) (bytes : List ℕ) (token : Token) →
+    Contains (tokens_from at after bytes) token → Begins at after bytes token
 begins-from at after [] token h = absurd (none_contained token h)
 begins-from at after (b ∷ bytes) token h =
-    elim (Contains-append_cases (token_at at after b bytes) (tokens_from (at + 1) (is_word_byte b) bytes) token h) [
+    elim (Contains-append_cases (token_at at after b bytes)
+    (tokens_from (at + 1) (is_word_byte b) bytes) token h) [
       | inl first ↦ record {
         k = 0;
         byte = b;
         holds = refl;
-        begins = subst (λ p. Contains (token_at p after b bytes) token) (let e : at ≡ at + 0 = omega arith in e) first;
+        begins = subst (λ p. Contains (token_at p after b bytes) token)
+            (let e : at ≡ at + 0 = omega arith in e) first;
       }
       | inr later ↦
           let r = begins-from (at + 1) (is_word_byte b) bytes token later in
@@ -45,13 +48,16 @@ begins-from at after (b ∷ bytes) token h =
             byte = r.byte;
             holds = r.holds;
             begins =
-                subst (λ p. Contains (token_at p (follows_word (is_word_byte b) bytes r.k) r.byte (drop (suc r.k) bytes)) token)
+                subst (λ p. Contains (token_at p (follows_word (is_word_byte b) bytes r.k) r.byte
+                (drop (suc r.k) bytes)) token)
                 (let e : at + 1 + r.k ≡ at + suc r.k = omega arith in e) r.begins;
           }
     ]
 
-begins-to : (at : ℕ) (after : Bool) (bytes : List ℕ) (token : Token) (k byte : ℕ) → slice_get bytes k ≡ Some byte →
-    Contains (token_at (at + k) (follows_word after bytes k) byte (drop (suc k) bytes)) token → Contains (tokens_from at after bytes) token
+begins-to : (at : ℕ) (after : Bool) (bytes : List ℕ) (token : Token) (k byte : ℕ) →
+    slice_get bytes k ≡ Some byte →
+    Contains (token_at (at + k) (follows_word after bytes k) byte (drop (suc k) bytes)) token →
+    Contains (tokens_from at after bytes) token
 begins-to at after [] token k byte holds h = absurd (none-some byte holds)
 begins-to at after (b ∷ bytes) token zero byte holds h =
     Contains-append_left (token_at at after b bytes) (tokens_from (at + 1) (is_word_byte b) bytes) token
@@ -60,7 +66,8 @@ begins-to at after (b ∷ bytes) token zero byte holds h =
 begins-to at after (b ∷ bytes) token (suc k) byte holds h =
     Contains-append_right (token_at at after b bytes) (tokens_from (at + 1) (is_word_byte b) bytes) token
     (begins-to (at + 1) (is_word_byte b) bytes token k byte holds
-    (subst (λ p. Contains (token_at p (follows_word (is_word_byte b) bytes k) byte (drop (suc k) bytes)) token)
+    (subst (λ p. Contains
+    (token_at p (follows_word (is_word_byte b) bytes k) byte (drop (suc k) bytes)) token)
     (let e : at + suc k ≡ at + 1 + k = omega arith in e) h))
 
 -- what a token that begins with a byte is
@@ -77,8 +84,10 @@ only x y (suc k, lt, e) = absurd (omega arith)
 itself : {A : Type 0} (x : A) → Contains (x ∷ []) x
 itself x = (0, omega arith, refl)
 
-begun_by : (at : ℕ) (after : Bool) (b : ℕ) (bytes : List ℕ) (token : Token) (word left right : Bool) → is_word_byte b ≡ word →
-    eqb b 40 ≡ left → eqb b 41 ≡ right → Contains (token_by at after bytes word left right) token → IsBegun at after b bytes token
+begun_by : (at : ℕ) (after : Bool) (b : ℕ) (bytes : List ℕ) (token : Token) (word left right : Bool) →
+    is_word_byte b ≡ word →
+    eqb b 40 ≡ left → eqb b 41 ≡ right → Contains (token_by at after bytes word left right) token →
+    IsBegun at after b bytes token
 begun_by at true b bytes token true left right p q r h = absurd (none_contained token h)
 begun_by at false b bytes token true left right p q r h =
     subst (IsBegun at false b bytes) (only _ token h) (p, refl, refl)
@@ -88,9 +97,11 @@ begun_by at after b bytes token false false true p q r h =
     subst (IsBegun at after b bytes) (only _ token h) ((grind (arith, nat_tests)), refl)
 begun_by at after b bytes token false false false p q r h = absurd (none_contained token h)
 
-begun : (at : ℕ) (after : Bool) (b : ℕ) (bytes : List ℕ) (token : Token) → Contains (token_at at after b bytes) token →
+begun : (at : ℕ) (after : Bool) (b : ℕ) (bytes : List ℕ) (token : Token) →
+    Contains (token_at at after b bytes) token →
     IsBegun at after b bytes token
-begun at after b bytes token h = begun_by at after b bytes token (is_word_byte b) (eqb b 40) (eqb b 41) refl refl refl h
+begun at after b bytes token h =
+    begun_by at after b bytes token (is_word_byte b) (eqb b 40) (eqb b 41) refl refl refl h
 
 begin : (at : ℕ) (after : Bool) (b : ℕ) (bytes : List ℕ) (token : Token) → IsBegun at after b bytes token →
     Contains (token_at at after b bytes) token
@@ -102,8 +113,10 @@ begin at after b bytes (Close p) (is, same) =
     (subst (λ b. Contains (token_at at after b bytes) (Close at)) (sym is) (itself (Close at)))
 begin at after b bytes (Word span) (word, first, same) =
     subst (λ span. Contains (token_at at after b bytes) (Word span)) (sym same)
-    (subst (λ after. Contains (token_at at after b bytes) (Word (record { from = at; to = at + 1 + run_length bytes }))) (sym first)
-    (subst (λ t. Contains (token_by at false bytes t (eqb b 40) (eqb b 41)) (Word (record { from = at; to = at + 1 + run_length bytes })))
+    (subst (λ after. Contains (token_at at after b bytes)
+    (Word (record { from = at; to = at + 1 + run_length bytes }))) (sym first)
+    (subst (λ t. Contains (token_by at false bytes t (eqb b 40) (eqb b 41))
+    (Word (record { from = at; to = at + 1 + run_length bytes })))
     (sym word) (itself (Word (record { from = at; to = at + 1 + run_length bytes })))))
 
 -- a byte other than a blank is shown where it is held outside comments
@@ -116,7 +129,8 @@ some_at [] p lt = absurd (omega arith)
 some_at (b ∷ bytes) zero lt = (b, refl)
 some_at (b ∷ bytes) (suc p) lt = some_at bytes p (omega arith)
 
-pub shown-holds : (bytes : List ℕ) (p b : ℕ) → b ≢ 32 → slice_get (shown bytes) p ≡ Some b → HoldsByte bytes p b
+pub shown-holds : (bytes : List ℕ) (p b : ℕ) → b ≢ 32 → slice_get (shown bytes) p ≡ Some b →
+    HoldsByte bytes p b
 shown-holds bytes p b other shows =
     let within = slice_get_within (shown bytes) p b shows in
     let held = some_at bytes p (omega (arith, within, length-view false bytes)) in
@@ -150,7 +164,8 @@ run-holds (b ∷ bytes) zero lt = by_test (is_word_byte b) refl
     by_test false h = absurd (omega (arith, lt, run_length-other b bytes h))
 run-holds (b ∷ bytes) (suc j) lt = by_test (is_word_byte b) refl (run-holds bytes j)
   where
-    by_test : (t : Bool) → is_word_byte b ≡ t → (j < run_length bytes → ShowsWordByte bytes j) → ShowsWordByte (b ∷ bytes) (suc j)
+    by_test : (t : Bool) → is_word_byte b ≡ t → (j < run_length bytes → ShowsWordByte bytes j) →
+        ShowsWordByte (b ∷ bytes) (suc j)
     by_test true h later = later (omega (arith, lt, run_length-word b bytes h))
     by_test false h later = absurd (omega (arith, lt, run_length-other b bytes h))
 
@@ -160,7 +175,8 @@ run-ends (b ∷ bytes) h = by_test (is_word_byte b) refl h (run-ends bytes)
   where
     by_test : (t : Bool) → is_word_byte b ≡ t → ShowsWordByte (b ∷ bytes) (run_length (b ∷ bytes)) →
         (ShowsWordByte bytes (run_length bytes) → ⊥) → ⊥
-    by_test true e h later = later (subst (ShowsWordByte (b ∷ bytes)) (run_length-word b bytes e ∙ add-one (run_length bytes)) h)
+    by_test true e h later =
+        later (subst (ShowsWordByte (b ∷ bytes)) (run_length-word b bytes e ∙ add-one (run_length bytes)) h)
     by_test false e h later =
         let at = subst (ShowsWordByte (b ∷ bytes)) (run_length-other b bytes e) h in
         false≢true (sym e ∙ ap is_word_byte (same_Some b at.0 at.1) ∙ at.2)
@@ -171,24 +187,34 @@ slice_get-drop [] (suc n) j = refl
 slice_get-drop (b ∷ bytes) (suc n) j =
     slice_get-drop bytes n j ∙ ap (slice_get (b ∷ bytes)) (let e : suc (n + j) ≡ suc n + j = omega arith in e)
 
-follows-shows : (after : Bool) (bytes : List ℕ) (p : ℕ) → ShowsWordByte bytes p → follows_word after bytes (suc p) ≡ true
+follows-shows : (after : Bool) (bytes : List ℕ) (p : ℕ) → ShowsWordByte bytes p →
+    follows_word after bytes (suc p) ≡ true
 follows-shows after [] p (b, shows, word) = absurd (none-some b shows)
 follows-shows after (x ∷ bytes) zero (b, shows, word) = ap is_word_byte (same_Some x b shows) ∙ word
-follows-shows after (x ∷ bytes) (suc p) (b, shows, word) = follows-shows (is_word_byte x) bytes p (b, shows, word)
+follows-shows after (x ∷ bytes) (suc p) (b, shows, word) =
+    follows-shows (is_word_byte x) bytes p (b, shows, word)
 
-shows-follows : (after : Bool) (bytes : List ℕ) (p : ℕ) → follows_word after bytes (suc p) ≡ true → ShowsWordByte bytes p
+shows-follows : (after : Bool) (bytes : List ℕ) (p : ℕ) → follows_word after bytes (suc p) ≡ true →
+    ShowsWordByte bytes p
 shows-follows after [] p h = absurd (false≢true h)
 shows-follows after (x ∷ bytes) zero h = (x, refl, h)
 shows-follows after (x ∷ bytes) (suc p) h = shows-follows (is_word_byte x) bytes p h
 
 -- a run of what is shown that begins at position k
-module _ (bytes : List ℕ) (k b : ℕ) (shows : slice_get (shown bytes) k ≡ Some b) (word : is_word_byte b ≡ true) where
-  inner : (p : ℕ) → k < p → p < k + 1 + run_length (drop (suc k) (shown bytes)) → ShowsWordByte (shown bytes) p
+module _ (bytes : List ℕ) (k b : ℕ) (shows : slice_get (shown bytes) k ≡ Some b)
+    (word : is_word_byte b ≡ true) where
+  inner : (p : ℕ) → k < p → p < k + 1 + run_length (drop (suc k) (shown bytes)) →
+      ShowsWordByte (shown bytes) p
   inner p above below =
-      let h = run-holds (drop (suc k) (shown bytes)) (p - suc k) (omega arith) in
-      (h.0, ap (slice_get (shown bytes)) (let e : p ≡ suc k + (p - suc k) = omega arith in e) ∙ sym (slice_get-drop (shown bytes) (suc k) (p - suc k)) ∙ h.1, h.2)
+      let h = run-holds (drop (suc k) (shown bytes)) (p - suc k) (omega arith) in (
+        h.0,
+        ap (slice_get (shown bytes)) (let e : p ≡ suc k + (p - suc k) = omega arith in e) ∙
+            sym (slice_get-drop (shown bytes) (suc k) (p - suc k)) ∙ h.1,
+        h.2,
+      )
 
-  in_run : (p : ℕ) → k ≤ p → p < k + 1 + run_length (drop (suc k) (shown bytes)) → ShowsWordByte (shown bytes) p
+  in_run : (p : ℕ) → k ≤ p → p < k + 1 + run_length (drop (suc k) (shown bytes)) →
+      ShowsWordByte (shown bytes) p
   in_run p above below =
       elim (cases_lt k p) [
         | inl lt ↦ inner p lt below
@@ -200,7 +226,9 @@ module _ (bytes : List ℕ) (k b : ℕ) (shows : slice_get (shown bytes) k ≡ S
       run-ends (drop (suc k) (shown bytes)) (
         c,
         slice_get-drop (shown bytes) (suc k) (run_length (drop (suc k) (shown bytes))) ∙
-            ap (slice_get (shown bytes)) (let e : suc k + run_length (drop (suc k) (shown bytes)) ≡ k + 1 + run_length (drop (suc k) (shown bytes)) = omega arith in e) ∙
+            ap (slice_get (shown bytes))
+            (let e : suc k + run_length (drop (suc k) (shown bytes)) ≡ k + 1 + run_length
+            (drop (suc k) (shown bytes)) = omega arith in e) ∙
             at,
         is,
       )
@@ -220,7 +248,8 @@ module _ (bytes : List ℕ) (k b : ℕ) (shows : slice_get (shown bytes) k ≡ S
   }
 
   -- and a longest run that begins there is this one
-  ends : (to : ℕ) → k < to → ((p : ℕ) → k ≤ p → p < to → HoldsWordByte bytes p) → (HoldsWordByte bytes to → ⊥) →
+  ends : (to : ℕ) → k < to → ((p : ℕ) → k ≤ p → p < to → HoldsWordByte bytes p) →
+      (HoldsWordByte bytes to → ⊥) →
       to ≡ k + 1 + run_length (drop (suc k) (shown bytes))
   ends to above within after =
       let end = k + 1 + run_length (drop (suc k) (shown bytes)) in
@@ -238,8 +267,10 @@ first_in_run : (bytes : List ℕ) (from : ℕ) → ((p : ℕ) → p + 1 ≡ from
 first_in_run bytes zero before = refl
 first_in_run bytes (suc p) before = by_test (follows_word false (shown bytes) (suc p)) refl
   where
-    by_test : (t : Bool) → follows_word false (shown bytes) (suc p) ≡ t → follows_word false (shown bytes) (suc p) ≡ false
-    by_test true h = absurd (before p (omega arith) (word_held bytes p (shows-follows false (shown bytes) p h)))
+    by_test : (t : Bool) → follows_word false (shown bytes) (suc p) ≡ t →
+        follows_word false (shown bytes) (suc p) ≡ false
+    by_test true h = absurd
+        (before p (omega arith) (word_held bytes p (shows-follows false (shown bytes) p h)))
     by_test false h = h
 
 pub same_span : (a b : Span) → a.from ≡ b.from → a.to ≡ b.to → a ≡ b
@@ -248,43 +279,57 @@ same_span a b p q = ap (λ n. record { from = n; to = a.to }) p ∙ ap (λ n. re
 token-is : (bytes : List ℕ) (token : Token) → Contains (tokens bytes) token → IsToken bytes token
 token-is bytes (Open p) h =
     let r = begins-from 0 false (shown bytes) (Open p) h in
-    let is : IsBegun (0 + r.k) (follows_word false (shown bytes) r.k) r.byte (drop (suc r.k) (shown bytes)) (Open p) =
-    begun (0 + r.k) (follows_word false (shown bytes) r.k) r.byte (drop (suc r.k) (shown bytes)) (Open p) r.begins
+    let is : IsBegun (0 + r.k) (follows_word false (shown bytes) r.k) r.byte (drop (suc r.k) (shown bytes))
+    (Open p) =
+    begun (0 + r.k) (follows_word false (shown bytes) r.k) r.byte (drop (suc r.k) (shown bytes))
+    (Open p) r.begins
     in
     shown-holds bytes p 40 (λ e. absurd (let never : ⊥ = omega (arith, e) in never))
     (ap (slice_get (shown bytes)) (let e : p ≡ r.k = omega (arith, is.1) in e) ∙ r.holds ∙ ap Some is.0)
 token-is bytes (Close p) h =
     let r = begins-from 0 false (shown bytes) (Close p) h in
-    let is : IsBegun (0 + r.k) (follows_word false (shown bytes) r.k) r.byte (drop (suc r.k) (shown bytes)) (Close p) =
-    begun (0 + r.k) (follows_word false (shown bytes) r.k) r.byte (drop (suc r.k) (shown bytes)) (Close p) r.begins
+    let is : IsBegun (0 + r.k) (follows_word false (shown bytes) r.k) r.byte (drop (suc r.k) (shown bytes))
+    (Close p) =
+    begun (0 + r.k) (follows_word false (shown bytes) r.k) r.byte (drop (suc r.k) (shown bytes))
+    (Close p) r.begins
     in
     shown-holds bytes p 41 (λ e. absurd (let never : ⊥ = omega (arith, e) in never))
     (ap (slice_get (shown bytes)) (let e : p ≡ r.k = omega (arith, is.1) in e) ∙ r.holds ∙ ap Some is.0)
 token-is bytes (Word span) h =
     let r = begins-from 0 false (shown bytes) (Word span) h in
-    let is : IsBegun (0 + r.k) (follows_word false (shown bytes) r.k) r.byte (drop (suc r.k) (shown bytes)) (Word span) =
-    begun (0 + r.k) (follows_word false (shown bytes) r.k) r.byte (drop (suc r.k) (shown bytes)) (Word span) r.begins
+    let is : IsBegun (0 + r.k) (follows_word false (shown bytes) r.k) r.byte (drop (suc r.k) (shown bytes))
+    (Word span) =
+    begun (0 + r.k) (follows_word false (shown bytes) r.k) r.byte (drop (suc r.k) (shown bytes))
+    (Word span) r.begins
     in
     subst (IsLongestRun bytes)
-    (ap (λ n. record { from = n; to = n + 1 + run_length (drop (suc r.k) (shown bytes)) }) (let e : r.k ≡ 0 + r.k = omega arith in e) ∙ sym is.2)
+    (ap (λ n. record { from = n; to = n + 1 + run_length (drop (suc r.k) (shown bytes)) })
+    (let e : r.k ≡ 0 + r.k = omega arith in e) ∙ sym is.2)
     (longest bytes r.k r.byte r.holds is.0 is.1)
 
 is-token : (bytes : List ℕ) (token : Token) → IsToken bytes token → Contains (tokens bytes) token
 is-token bytes (Open p) h =
     begins-to 0 false (shown bytes) (Open p) p 40 (holds-shown bytes p 40 h)
-    (begin (0 + p) (follows_word false (shown bytes) p) 40 (drop (suc p) (shown bytes)) (Open p) (refl, omega arith))
+    (begin (0 + p) (follows_word false (shown bytes) p) 40 (drop (suc p) (shown bytes)) (Open p)
+    (refl, omega arith))
 is-token bytes (Close p) h =
     begins-to 0 false (shown bytes) (Close p) p 41 (holds-shown bytes p 41 h)
-    (begin (0 + p) (follows_word false (shown bytes) p) 41 (drop (suc p) (shown bytes)) (Close p) (refl, omega arith))
+    (begin (0 + p) (follows_word false (shown bytes) p) 41 (drop (suc p) (shown bytes)) (Close p)
+    (refl, omega arith))
 is-token bytes (Word span) h =
     let first = word_shown bytes span.from (h.within span.from (omega arith) h.some) in
     begins-to 0 false (shown bytes) (Word span) span.from first.0 first.1
-    (begin (0 + span.from) (follows_word false (shown bytes) span.from) first.0 (drop (suc span.from) (shown bytes)) (Word span) (
+    (begin (0 + span.from) (follows_word false (shown bytes) span.from) first.0
+    (drop (suc span.from) (shown bytes)) (Word span) (
       first.2,
       first_in_run bytes span.from h.before,
-      same_span span (record { from = 0 + span.from; to = 0 + span.from + 1 + run_length (drop (suc span.from) (shown bytes)) }) (omega arith)
+      same_span span (record {
+        from = 0 + span.from;
+        to = 0 + span.from + 1 + run_length (drop (suc span.from) (shown bytes));
+      }) (omega arith)
           (ends bytes span.from first.0 first.1 first.2 span.to h.some h.within h.after ∙
-          ap (λ n. n + 1 + run_length (drop (suc span.from) (shown bytes))) (let e : span.from ≡ 0 + span.from = omega arith in e)),
+          ap (λ n. n + 1 + run_length (drop (suc span.from) (shown bytes)))
+          (let e : span.from ≡ 0 + span.from = omega arith in e)),
     ))
 
 -- the tokens of a file are its brackets and its longest runs of word bytes outside comments, by rising place
@@ -294,14 +339,16 @@ AreTokensOf-tokens bytes = record {
   members = λ token. (token-is bytes token, is-token bytes token);
 }
 
-late : (low high : ℕ) (all : List Token) (token : Token) → Rises low high all → Contains all token → low ≤ place_of token
+late : (low high : ℕ) (all : List Token) (token : Token) → Rises low high all → Contains all token →
+    low ≤ place_of token
 late low high [] token rises h = absurd (none_contained token h)
 late low high (first ∷ all) token rises (zero, lt, is) = subst (λ t. low ≤ place_of t) is rises.0
 late low high (first ∷ all) token rises (suc k, lt, is) =
     omega (arith, rises.0, rises.1, late (end_of first) high all token rises.2 (k, omega arith, is))
 
 -- a member is the first one, or one of the others
-first_or_other : (first : Token) (all : List Token) (token : Token) → Contains (first ∷ all) token → (first ≡ token) ⊎ Contains all token
+first_or_other : (first : Token) (all : List Token) (token : Token) → Contains (first ∷ all) token →
+    (first ≡ token) ⊎ Contains all token
 first_or_other first all token (zero, lt, is) = inl is
 first_or_other first all token (suc k, lt, is) = inr (k, omega arith, is)
 
@@ -309,7 +356,8 @@ others : (x : Token) (xs ys : List Token) (high : ℕ) → Rises (end_of x) high
     ((t : Token) → Contains (x ∷ xs) t → Contains (x ∷ ys) t) → (t : Token) → Contains xs t → Contains ys t
 others x xs ys high rises some to t h =
     elim (first_or_other x ys t (to t (suc h.0, omega (arith, h.1), h.2))) [
-      | inl is ↦ absurd (omega (arith, some, subst (λ t. end_of x ≤ place_of t) (sym is) (late (end_of x) high xs t rises h)))
+      | inl is ↦ absurd (omega
+          (arith, some, subst (λ t. end_of x ≤ place_of t) (sym is) (late (end_of x) high xs t rises h)))
       | inr other ↦ other
     ]
 
@@ -328,7 +376,13 @@ same_rising lowx lowy high (x ∷ xs) (y ∷ ys) p q to from =
             | inl is ↦ is
             | inr below ↦
                 absurd
-                (omega (arith, p.1, q.1, late (end_of y) high ys x q.2 above, late (end_of x) high xs y p.2 below))
+                (omega (
+                  arith,
+                  p.1,
+                  q.1,
+                  late (end_of y) high ys x q.2 above,
+                  late (end_of x) high xs y p.2 below,
+                ))
           ]
     ]
     in

@@ -20,7 +20,8 @@ token_by at after bytes word left right =
 
 pub from-cons : (at : ℕ) (after : Bool) (b : ℕ) (bytes : List ℕ) (word left right : Bool) →
     is_word_byte b ≡ word → eqb b 40 ≡ left → eqb b 41 ≡ right →
-    tokens_from at after (b ∷ bytes) ≡ token_by at after bytes word left right ++ tokens_from (at + 1) word bytes
+    tokens_from at after (b ∷ bytes) ≡ token_by at after bytes word left right ++ tokens_from
+    (at + 1) word bytes
 from-cons at after b bytes word left right p q r =
     ap (λ t. token_by at after bytes t (eqb b 40) (eqb b 41) ++ tokens_from (at + 1) t bytes) p ∙
     ap (λ t. token_by at after bytes word t (eqb b 41) ++ tokens_from (at + 1) word bytes) q ∙
@@ -28,10 +29,13 @@ from-cons at after b bytes word left right p q r =
 
 from-blank : (at : ℕ) (after : Bool) (b : ℕ) (bytes : List ℕ) → is_blank b ≡ true →
     tokens_from at after (b ∷ bytes) ≡ tokens_from (at + 1) false bytes
-from-blank at after b bytes h = from-cons at after b bytes false false false (grind (arith, nat_tests)) (grind (arith, nat_tests)) (grind (arith, nat_tests))
+from-blank at after b bytes h =
+    from-cons at after b bytes false false false (grind (arith, nat_tests)) (grind (arith, nat_tests))
+    (grind (arith, nat_tests))
 
 pub from-word : (at : ℕ) (b : ℕ) (bytes : List ℕ) → is_word_byte b ≡ true →
-    tokens_from at false (b ∷ bytes) ≡ Word (record { from = at; to = at + 1 + run_length bytes }) ∷ tokens_from (at + 1) true bytes
+    tokens_from at false (b ∷ bytes) ≡ Word
+    (record { from = at; to = at + 1 + run_length bytes }) ∷ tokens_from (at + 1) true bytes
 from-word at b bytes h = from-cons at false b bytes true (eqb b 40) (eqb b 41) h refl refl
 
 pub from-inner : (at : ℕ) (b : ℕ) (bytes : List ℕ) → is_word_byte b ≡ true →
@@ -42,26 +46,32 @@ from-inner at b bytes h = from-cons at true b bytes true (eqb b 40) (eqb b 41) h
 pub from-other : (at : ℕ) (b : ℕ) (bytes : List ℕ) → is_word_byte b ≡ false →
     tokens_from at true (b ∷ bytes) ≡ tokens_from at false (b ∷ bytes)
 from-other at b bytes h =
-    from-cons at true b bytes false (eqb b 40) (eqb b 41) h refl refl ∙ sym (from-cons at false b bytes false (eqb b 40) (eqb b 41) h refl refl)
+    from-cons at true b bytes false (eqb b 40) (eqb b 41) h refl refl ∙
+    sym (from-cons at false b bytes false (eqb b 40) (eqb b 41) h refl refl)
 
-pub run_length-word : (b : ℕ) (bytes : List ℕ) → is_word_byte b ≡ true → run_length (b ∷ bytes) ≡ run_length bytes + 1
+pub run_length-word : (b : ℕ) (bytes : List ℕ) → is_word_byte b ≡ true →
+    run_length (b ∷ bytes) ≡ run_length bytes + 1
 run_length-word b bytes h = ap (λ t. cond t (run_length bytes + 1) 0) h
 
 pub run_length-other : (b : ℕ) (bytes : List ℕ) → is_word_byte b ≡ false → run_length (b ∷ bytes) ≡ 0
 run_length-other b bytes h = ap (λ t. cond t (run_length bytes + 1) 0) h
 
 -- the rest of a word begins no token
-from-run : (at : ℕ) (bytes : List ℕ) → tokens_from at true bytes ≡ tokens_from (at + run_length bytes) false (drop (run_length bytes) bytes)
+from-run : (at : ℕ) (bytes : List ℕ) →
+    tokens_from at true bytes ≡ tokens_from (at + run_length bytes) false (drop (run_length bytes) bytes)
 from-run at [] = refl
 from-run at (b ∷ bytes) = by_test (is_word_byte b) refl (from-run (at + 1) bytes)
   where
     by_test : (t : Bool) → is_word_byte b ≡ t →
-        tokens_from (at + 1) true bytes ≡ tokens_from (at + 1 + run_length bytes) false (drop (run_length bytes) bytes) →
-        tokens_from at true (b ∷ bytes) ≡ tokens_from (at + run_length (b ∷ bytes)) false (drop (run_length (b ∷ bytes)) (b ∷ bytes))
+        tokens_from (at + 1) true bytes ≡ tokens_from (at + 1 + run_length bytes) false
+        (drop (run_length bytes) bytes) →
+        tokens_from at true (b ∷ bytes) ≡ tokens_from (at + run_length (b ∷ bytes)) false
+        (drop (run_length (b ∷ bytes)) (b ∷ bytes))
     by_test true h later =
         from-inner at b bytes h ∙ later ∙
         ap (λ p. tokens_from p false (drop (run_length bytes) bytes)) (omega arith) ∙
-        sym (ap (λ n. tokens_from (at + n) false (drop n (b ∷ bytes))) (run_length-word b bytes h ∙ add-one (run_length bytes)))
+        sym (ap (λ n. tokens_from (at + n) false (drop n (b ∷ bytes)))
+        (run_length-word b bytes h ∙ add-one (run_length bytes)))
     by_test false h later =
         from-other at b bytes h ∙
         ap (λ p. tokens_from p false (b ∷ bytes)) (sym (add-zero at)) ∙
@@ -70,7 +80,8 @@ from-run at (b ∷ bytes) = by_test (is_word_byte b) refl (from-run (at + 1) byt
 -- what stands outside comments, past the first byte
 pub shown-cons : (b : ℕ) (bytes : List ℕ) → b ≢ 59 → shown (b ∷ bytes) ≡ b ∷ shown bytes
 shown-cons b bytes other =
-    let none : eqb b 59 ≡ false = grind (arith, nat_tests) in ap (λ t. cond t (32 ∷ hidden bytes) (b ∷ shown bytes)) none
+    let none : eqb b 59 ≡ false = grind (arith, nat_tests) in
+    ap (λ t. cond t (32 ∷ hidden bytes) (b ∷ shown bytes)) none
 
 word_byte_is_shown : (b : ℕ) → is_word_byte b ≡ true → b ≢ 59
 word_byte_is_shown b h is = false≢true (sym (ap is_word_byte is) ∙ h)
@@ -116,15 +127,19 @@ shows_run (b ∷ bytes) = by_test (is_word_byte b) refl (shows_run bytes)
     by_shown true h e =
         ap (λ t. run_length (cond t (32 ∷ hidden bytes) (b ∷ shown bytes))) e
     by_shown false h e =
-        ap (λ t. run_length (cond t (32 ∷ hidden bytes) (b ∷ shown bytes))) e ∙ run_length-other b (shown bytes) h
+        ap (λ t. run_length (cond t (32 ∷ hidden bytes) (b ∷ shown bytes))) e ∙
+        run_length-other b (shown bytes) h
 
     by_test : (t : Bool) → is_word_byte b ≡ t → ShowsRun bytes → ShowsRun (b ∷ bytes)
     by_test true h later =
         let is = shown-cons b bytes (word_byte_is_shown b h) in
-        let n : run_length (b ∷ bytes) ≡ suc (run_length bytes) = run_length-word b bytes h ∙ add-one (run_length bytes) in
+        let n : run_length (b ∷ bytes) ≡ suc (run_length bytes) = run_length-word b bytes h ∙
+        add-one (run_length bytes) in
         record {
-          run = ap run_length is ∙ run_length-word b (shown bytes) h ∙ ap (λ n. n + 1) later.run ∙ sym (run_length-word b bytes h);
-          shows = ap (λ n. drop n (shown (b ∷ bytes))) n ∙ ap (drop (suc (run_length bytes))) is ∙ later.shows ∙ sym (ap (λ n. shown (drop n (b ∷ bytes))) n);
+          run = ap run_length is ∙ run_length-word b (shown bytes) h ∙ ap (λ n. n + 1) later.run ∙
+              sym (run_length-word b bytes h);
+          shows = ap (λ n. drop n (shown (b ∷ bytes))) n ∙ ap (drop (suc (run_length bytes))) is ∙
+              later.shows ∙ sym (ap (λ n. shown (drop n (b ∷ bytes))) n);
           clean =
               subst (λ n. IsClean (take n (shown (b ∷ bytes)))) (sym n)
               (subst (λ list. IsClean (take (suc (run_length bytes)) list)) (sym is)
@@ -135,26 +150,31 @@ shows_run (b ∷ bytes) = by_test (is_word_byte b) refl (shows_run bytes)
         record {
           run = by_shown (eqb b 59) h refl ∙ sym n;
           shows = ap (λ n. drop n (shown (b ∷ bytes))) n ∙ sym (ap (λ n. shown (drop n (b ∷ bytes))) n);
-          clean = subst (λ n. IsClean (take n (shown (b ∷ bytes)))) (sym n) (All-nil (λ b. is_bad_byte b ≡ false));
+          clean = subst (λ n. IsClean (take n (shown (b ∷ bytes)))) (sym n)
+              (All-nil (λ b. is_bad_byte b ≡ false));
         }
 
 pub goes_on-word : (at b : ℕ) (bytes : List ℕ) → is_word_byte b ≡ true →
-    GoesOn at (run_length (b ∷ bytes)) (b ∷ bytes) (Word (record { from = at; to = at + run_length (b ∷ bytes) }) ∷ [])
+    GoesOn at (run_length (b ∷ bytes)) (b ∷ bytes)
+    (Word (record { from = at; to = at + run_length (b ∷ bytes) }) ∷ [])
 goes_on-word at b bytes h =
     let is = shown-cons b bytes (word_byte_is_shown b h) in
     let run = shows_run (b ∷ bytes) in
     let later = shows_run bytes in
-    let n : run_length (b ∷ bytes) ≡ suc (run_length bytes) = run_length-word b bytes h ∙ add-one (run_length bytes) in
+    let n : run_length (b ∷ bytes) ≡ suc (run_length bytes) = run_length-word b bytes h ∙
+    add-one (run_length bytes) in
     record {
       tokens =
           ap (tokens_from at false) is ∙
           from-word at b (shown bytes) h ∙
-          ap (λ p. Word (record { from = at; to = p }) ∷ tokens_from (at + 1) true (shown bytes)) (omega (arith, n, later.run)) ∙
+          ap (λ p. Word (record { from = at; to = p }) ∷ tokens_from (at + 1) true (shown bytes))
+          (omega (arith, n, later.run)) ∙
           ap (λ rest. Word (record { from = at; to = at + run_length (b ∷ bytes) }) ∷ rest)
           (from-run (at + 1) (shown bytes) ∙
           ap (λ n. tokens_from (at + 1 + n) false (drop n (shown bytes))) later.run ∙
           ap (λ p. tokens_from p false (drop (run_length bytes) (shown bytes))) (omega (arith, n)) ∙
-          ap (tokens_from (at + run_length (b ∷ bytes)) false) (later.shows ∙ sym (ap (λ n. shown (drop n (b ∷ bytes))) n)));
+          ap (tokens_from (at + run_length (b ∷ bytes)) false)
+          (later.shows ∙ sym (ap (λ n. shown (drop n (b ∷ bytes))) n)));
       shows = run.shows;
       clean = run.clean;
     }
@@ -162,12 +182,14 @@ goes_on-word at b bytes h =
 line_length-end : (b : ℕ) (bytes : List ℕ) → b ≡ 10 → line_length (b ∷ bytes) ≡ 0
 line_length-end b bytes h = ap (λ x. line_length (x ∷ bytes)) h
 
-pub line_length-more : (b : ℕ) (bytes : List ℕ) → eqb b 10 ≡ false → line_length (b ∷ bytes) ≡ suc (line_length bytes)
+pub line_length-more : (b : ℕ) (bytes : List ℕ) → eqb b 10 ≡ false →
+    line_length (b ∷ bytes) ≡ suc (line_length bytes)
 line_length-more b bytes h = ap (λ t. cond t 0 (line_length bytes + 1)) h ∙ add-one (line_length bytes)
 
 -- the rest of a comment is hidden
 record Hides (at : ℕ) (bytes : List ℕ) : Type 0 where
-  tokens : tokens_from at false (hidden bytes) ≡ tokens_from (at + line_length bytes) false (shown (drop (line_length bytes) bytes))
+  tokens : tokens_from at false (hidden bytes) ≡ tokens_from (at + line_length bytes) false
+      (shown (drop (line_length bytes) bytes))
   shows : drop (line_length bytes) (hidden bytes) ≡ shown (drop (line_length bytes) bytes)
   clean : IsClean (take (line_length bytes) (hidden bytes))
 
@@ -179,26 +201,32 @@ hides at (b ∷ bytes) = by_test (eqb b 10) refl (hides (at + 1) bytes)
     by_test true h later =
         let is : b ≡ 10 = grind (arith, nat_tests) in
         let n = line_length-end b bytes is in
-        let same : hidden (b ∷ bytes) ≡ shown (b ∷ bytes) = ap (λ x. hidden (x ∷ bytes)) is ∙ sym (ap (λ x. shown (x ∷ bytes)) is) in
+        let same : hidden (b ∷ bytes) ≡ shown (b ∷ bytes) = ap (λ x. hidden (x ∷ bytes)) is ∙
+        sym (ap (λ x. shown (x ∷ bytes)) is) in
         record {
           tokens =
               ap (tokens_from at false) same ∙
               ap (λ p. tokens_from p false (shown (b ∷ bytes))) (sym (add-zero at)) ∙
               sym (ap (λ n. tokens_from (at + n) false (shown (drop n (b ∷ bytes)))) n);
-          shows = ap (λ n. drop n (hidden (b ∷ bytes))) n ∙ same ∙ sym (ap (λ n. shown (drop n (b ∷ bytes))) n);
-          clean = subst (λ n. IsClean (take n (hidden (b ∷ bytes)))) (sym n) (All-nil (λ b. is_bad_byte b ≡ false));
+          shows = ap (λ n. drop n (hidden (b ∷ bytes))) n ∙ same ∙
+              sym (ap (λ n. shown (drop n (b ∷ bytes))) n);
+          clean = subst (λ n. IsClean (take n (hidden (b ∷ bytes)))) (sym n)
+              (All-nil (λ b. is_bad_byte b ≡ false));
         }
     by_test false h later =
         let n = line_length-more b bytes h in
-        let is : hidden (b ∷ bytes) ≡ 32 ∷ hidden bytes = ap (λ t. cond t (10 ∷ shown bytes) (32 ∷ hidden bytes)) h in
+        let is : hidden (b ∷ bytes) ≡ 32 ∷ hidden bytes =
+        ap (λ t. cond t (10 ∷ shown bytes) (32 ∷ hidden bytes)) h in
         record {
           tokens =
               ap (tokens_from at false) is ∙
               from-blank at false 32 (hidden bytes) refl ∙
               later.tokens ∙
               ap (λ p. tokens_from p false (shown (drop (line_length bytes) bytes))) (omega (arith, n)) ∙
-              ap (tokens_from (at + line_length (b ∷ bytes)) false) (sym (ap (λ n. shown (drop n (b ∷ bytes))) n));
-          shows = ap (λ n. drop n (hidden (b ∷ bytes))) n ∙ ap (drop (suc (line_length bytes))) is ∙ later.shows ∙ sym (ap (λ n. shown (drop n (b ∷ bytes))) n);
+              ap (tokens_from (at + line_length (b ∷ bytes)) false)
+              (sym (ap (λ n. shown (drop n (b ∷ bytes))) n));
+          shows = ap (λ n. drop n (hidden (b ∷ bytes))) n ∙ ap (drop (suc (line_length bytes))) is ∙
+              later.shows ∙ sym (ap (λ n. shown (drop n (b ∷ bytes))) n);
           clean =
               subst (λ n. IsClean (take n (hidden (b ∷ bytes)))) (sym n)
               (subst (λ list. IsClean (take (suc (line_length bytes)) list)) (sym is)
@@ -214,8 +242,10 @@ goes_on-comment at bytes =
           from-blank at false 32 (hidden bytes) refl ∙
           later.tokens ∙
           ap (λ p. tokens_from p false (shown (drop (line_length bytes) bytes))) (omega (arith, n)) ∙
-          ap (tokens_from (at + line_length (59 ∷ bytes)) false) (sym (ap (λ n. shown (drop n (59 ∷ bytes))) n));
-      shows = ap (λ n. drop n (32 ∷ hidden bytes)) n ∙ later.shows ∙ sym (ap (λ n. shown (drop n (59 ∷ bytes))) n);
+          ap (tokens_from (at + line_length (59 ∷ bytes)) false)
+          (sym (ap (λ n. shown (drop n (59 ∷ bytes))) n));
+      shows = ap (λ n. drop n (32 ∷ hidden bytes)) n ∙ later.shows ∙
+          sym (ap (λ n. shown (drop n (59 ∷ bytes))) n);
       clean =
           subst (λ n. IsClean (take n (32 ∷ hidden bytes))) (sym n)
           (All-cons (λ b. is_bad_byte b ≡ false) 32 _ refl later.clean);

@@ -8,4 +8,5 @@ folded_byte-folded b = grind (arith, nat_tests)
 
 pub folded-folded : (word : List ℕ) → folded (folded word) ≡ folded word
 folded-folded [] = refl
-folded-folded (b ∷ word) = ap (λ b. b ∷ folded (folded word)) (folded_byte-folded b) ∙ ap (λ rest. folded_byte b ∷ rest) (folded-folded word)
+folded-folded (b ∷ word) = ap (λ b. b ∷ folded (folded word)) (folded_byte-folded b) ∙
+    ap (λ rest. folded_byte b ∷ rest) (folded-folded word)

@@ -1,9 +1,9 @@
 -- The forms of a file: words and lists, as its tokens nest.
-use Rattle.std.specs.Prelude.{◌≡◌, ℕ, ◌-◌, List, [], ◌∷◌, ◌++◌, ⊤}
+use Rattle.std.specs.Prelude.{◌≡◌, ℕ, List, [], ◌∷◌, ⊤}
 use Rattle.pl_text.specs.declared.form.Span.{Span}
 use Rattle.pl_text.specs.declared.form.Form.{Form, Word, List', Row_of-Form, end_of-Form, more_of-Form, items-the_row-Form}
-use Rattle.pl_text.specs.Tokens as token
-use Rattle.pl_text.specs.Tokens.{Token, tokens}
+use Rattle.pl_text.specs.Tokens.{Token}
+use Rattle.pl_text.specs.Trees.{trees_of, written_all, AreTreesOf}
 
 -- from the first byte of a form to one past its last
 abbrev pub span_of : Form → Span
@@ -37,24 +37,13 @@ module _ (P : Form → Type 0) where
     EveryInRow end_of-Form = ⊤
     EveryInRow (more_of-Form form rest) = Every form × EveryInRow rest
 
-abbrev mutual
-  -- the tokens that a form is written with: a word, or an open bracket, those of its elements and a close bracket
-  pub flatten : Form → List Token
-  flatten (Word span) = token.Word span ∷ []
-  flatten (List' span shape row) = token.Open span.from ∷ flatten_row row ++ token.Close (span.to - 1) ∷ []
-
-  pub flatten_row : {n : _} → Row_of-Form n → List Token
-  flatten_row end_of-Form = []
-  flatten_row (more_of-Form form rest) = flatten form ++ flatten_row rest
-
--- the tokens of forms that follow one another
+-- the tokens that forms are written with which follow one another
 abbrev pub flatten_all : List Form → List Token
-flatten_all [] = []
-flatten_all (form ∷ forms) = flatten form ++ flatten_all forms
+flatten_all forms = written_all (trees_of forms)
 
 -- The forms of a file are those that are written with all its tokens, in their order.
 abbrev pub AreFormsOf : List ℕ → List Form → Type 0
-AreFormsOf bytes forms = flatten_all forms ≡ tokens bytes
+AreFormsOf bytes forms = AreTreesOf bytes (trees_of forms)
 
 abbrev mutual
   -- The two forms are the same but for how their memory lies: one word, or two lists with one span and with elements

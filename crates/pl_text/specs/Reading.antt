@@ -1,7 +1,7 @@
 -- How far a reading of a file has come: the lists that are still open, and the forms that are done.
 use Rattle.std.specs.Prelude.{◌≡◌, ℕ, ◌+◌, ◌≤◌, false, List, [], ◌∷◌, ◌++◌, length, take, drop, reverse, All, ⊤}
 use Rattle.pl_text.specs.declared.form.Form.{Form}
-use Rattle.pl_text.specs.declared.fault.TheConstants.{MAX_DEPTH}
+use Rattle.pl_text.specs.Limits.{most_open}
 use Rattle.pl_text.specs.declared.fault.TextFault.TheVariants.{StrayClose, TooDeep}
 use Rattle.pl_text.specs.declared.fault.TextEnd.{TextEnd}
 use Rattle.pl_text.specs.declared.fault.TextEnd.TheVariants.{Fault, Memory}
@@ -27,7 +27,7 @@ AreNested (list ∷ outer) count = (list.before ≤ count) × AreNested outer li
 -- what a reading keeps, the outermost list first
 pub record IsKept (lists : List Opened) (done : List Form) : Type 0 where
   pub nested : AreNested (reverse lists) (length done)
-  pub depth : length lists ≤ MAX_DEPTH
+  pub depth : length lists ≤ most_open
 
 -- A token was read.
 pub record AddsToken (old_lists new_lists : List Opened) (old_done new_done : List Form) (token : Token) : Type 0 where
@@ -36,7 +36,7 @@ pub record AddsToken (old_lists new_lists : List Opened) (old_done new_done : Li
 
 -- An open bracket was refused: as many lists are open as may be, or there is no memory.
 abbrev pub CannotEnter : List Opened → ℕ → TextEnd → Type 0
-CannotEnter lists at (Fault fault) = (fault ≡ TooDeep at) × (length lists ≡ MAX_DEPTH)
+CannotEnter lists at (Fault fault) = (fault ≡ TooDeep at) × (length lists ≡ most_open)
 CannotEnter lists at (Memory error) = ⊤
 
 -- A close bracket was refused: no list is open, or there is no memory.
@@ -53,7 +53,7 @@ IsMemory (Memory error) = ⊤
 abbrev pub IsQuiet : List Token → Type 0
 IsQuiet all =
     (front rest : List Token) → all ≡ front ++ rest →
-    (closes front ≤ opens front) × (opens front ≤ closes front + MAX_DEPTH)
+    (closes front ≤ opens front) × (opens front ≤ closes front + most_open)
 
 -- The file was read without a fault up to the place `at`, which stands outside comments and does not cut a word.
 pub record IsRead (bytes : List ℕ) (at : ℕ) (lists : List Opened) (done : List Form) : Type 0 where

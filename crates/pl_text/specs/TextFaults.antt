@@ -4,12 +4,11 @@ use Rattle.pl_text.specs.declared.fault.TextFault.{TextFault}
 use Rattle.pl_text.specs.declared.fault.TextFault.TheVariants.{BadByte, StrayClose, TooDeep, Unclosed}
 use Rattle.pl_text.specs.declared.fault.TextEnd.{TextEnd}
 use Rattle.pl_text.specs.declared.fault.TextEnd.TheVariants.{Fault, Memory}
-use Rattle.pl_text.specs.declared.fault.TheConstants.{MAX_DEPTH}
-use Rattle.pl_text.specs.declared.form.Form.{Form}
+use Rattle.pl_text.specs.Limits.{most_open}
 use Rattle.pl_text.specs.Bytes.{is_bad_byte}
 use Rattle.pl_text.specs.Comments.{HoldsByte}
 use Rattle.pl_text.specs.Tokens.{Token, Open, Close, Word, tokens}
-use Rattle.pl_text.specs.Forms.{AreFormsOf}
+use Rattle.pl_text.specs.Trees.{Trees, AreTreesOf}
 
 -- how many open brackets are among these tokens
 abbrev pub opens : List Token → ℕ
@@ -41,7 +40,7 @@ pub record IsTooDeep (all : List Token) (at : ℕ) : Type 0 where
   pub before : List Token
   pub rest : List Token
   pub splits : all ≡ before ++ Open at ∷ rest
-  pub deep : opens (before ++ Open at ∷ []) ≡ closes (before ++ Open at ∷ []) + MAX_DEPTH + 1
+  pub deep : opens (before ++ Open at ∷ []) ≡ closes (before ++ Open at ∷ []) + most_open + 1
 
 -- No front of these tokens has more closes than opens.
 abbrev pub ClosesNothing : List Token → Type 0
@@ -89,9 +88,9 @@ pub record IsGivenFault (bytes : List ℕ) (fault : TextFault) : Type 0 where
 abbrev pub IsFaultless : List ℕ → Type 0
 IsFaultless bytes = (fault : TextFault) → IsTextFault bytes fault → ⊥
 
--- The file has no fault, and has forms.
+-- The file has no fault, and has trees.
 abbrev pub HasForms : List ℕ → Type 0
-HasForms bytes = IsFaultless bytes × ((forms : List Form) × AreFormsOf bytes forms)
+HasForms bytes = IsFaultless bytes × ((trees : Trees) × AreTreesOf bytes trees)
 
 -- The file gives a fault.
 abbrev pub GivesFault : List ℕ → Type 0

@@ -15,14 +15,28 @@ pub struct Span {
 
 /// A word or a list, each with the part of the file that it was read from.
 ///
-/// A list's span runs from its open bracket to one past its close bracket. Definitions go over forms by
-/// `specs/Forms`: `elements`, `fold_form` and `Every`.
+/// A list's span runs from its open bracket to one past its close bracket. Contracts see a form as its tree, which
+/// is defined in `specs/Trees`.
 #[derive(Debug, Drop)]
 pub enum Form {
     /// A word.
     Word(Span),
     /// A list with its elements, in the order of the file.
     List(Span, Vec<Form>),
+}
+
+impl Form {
+    ghost use Rattle.pl_text.specs.Trees.{span_of, tree_of};
+
+    /// The part of the file that the form was read from.
+    pub fn span(&self) -> Span
+        ensures { result ≡ span_of (tree_of self.now) }
+    {
+        match self {
+            Form::Word(span) => *span,
+            Form::List(span, _) => *span,
+        }
+    }
 }
 
 /// The forms of a file, in their order.

@@ -1,7 +1,9 @@
 //! The reading of a whole file.
 
 ghost use Rattle.std.specs.Prelude.{◌≤◌, length, IfOk, OnOk, IfErr, All};
+ghost use Rattle.pl_text.specs.Limits.{most_bytes};
 ghost use Rattle.pl_text.specs.Forms.{AreFormsOf};
+ghost use Rattle.pl_text.specs.Trees.{trees_of, LieBetween, AreInFile};
 ghost use Rattle.pl_text.specs.Spans.{ArePlaced, IsPlaced, IsWithin};
 ghost use Rattle.pl_text.specs.TextFaults.{IsFaultless, EndsBy};
 
@@ -19,11 +21,14 @@ pub const MAX_BYTES: usize = 16777216;
 /// is 40 bytes or so for each form, whose place in its list is taken when the list ends. `TextEnd::Memory` alone may
 /// come for any file.
 pub fn forms(alloc: Global, bytes: &[u8]) -> Result<FormList, TextEnd>
-    requires { length bytes.now ≤ MAX_BYTES }
+    requires { length bytes.now ≤ most_bytes }
     // The forms are written with the tokens of the file, and the file has no fault.
     ensures forms { IfOk result (AreFormsOf bytes.now) }
     ensures faultless { OnOk result (IsFaultless bytes.now) }
-    // Their spans lie in the file, one after another, and the elements of a list between its brackets.
+    // They lie in the file one after another, and the elements of a list between its brackets.
+    ensures lie { IfOk result (λ list. LieBetween 0 (length bytes.now) (trees_of list)) }
+    ensures in_file { IfOk result (λ list. AreInFile (length bytes.now) (trees_of list)) }
+    // The same, said of forms.
     ensures within { IfOk result (All (IsWithin (length bytes.now))) }
     ensures in_order { IfOk result (ArePlaced 0 (length bytes.now)) }
     ensures placed { IfOk result (All IsPlaced) }

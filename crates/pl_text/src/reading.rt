@@ -1,7 +1,9 @@
 //! A reading that has come to some place of a file.
 
 ghost use Rattle.std.specs.Prelude.{◌≡◌, ◌<◌, ◌≤◌, [], length, OnOk, IfOk, IfErr, All};
+ghost use Rattle.pl_text.specs.Limits.{most_bytes};
 ghost use Rattle.pl_text.specs.Forms.{AreFormsOf};
+ghost use Rattle.pl_text.specs.Trees.{trees_of, LieBetween, AreInFile};
 ghost use Rattle.pl_text.specs.Spans.{ArePlaced, IsPlaced, IsWithin};
 ghost use Rattle.pl_text.specs.TextFaults.{EndsBy, IsFaultless, IsGivenFault};
 ghost use Rattle.pl_text.specs.Tokens.{Open as OpenToken, Close as CloseToken, Word as WordToken};
@@ -48,7 +50,7 @@ impl Reading {
     pub fn step(&mut self, bytes: &[u8], at: usize) -> Result<usize, TextEnd>
         requires read { IsRead bytes.now at self.old.lists.items self.old.done.items }
         requires left { at < length bytes.now }
-        requires few { length bytes.now ≤ 16777216 }
+        requires few { length bytes.now ≤ most_bytes }
         ensures ok { IfOk result
             (λ next. IsRead bytes.now next self.new.lists.items self.new.done.items) }
         ensures further { IfOk result (λ next. at < next) }
@@ -95,7 +97,7 @@ impl Reading {
     /// The innermost list ends.
     fn leave(&mut self, at: u32) -> Result<(), TextEnd>
         requires kept { IsKept self.old.lists.items self.old.done.items }
-        requires few { at < 16777216 }
+        requires few { at < most_bytes }
         ensures ok { OnOk result
             (AddsToken self.old.lists.items self.new.lists.items
             self.old.done.items self.new.done.items (CloseToken at)) }
@@ -137,6 +139,8 @@ impl Reading {
         requires { IsRead bytes.now (length bytes.now) self.lists.items self.done.items }
         ensures forms { IfOk result (AreFormsOf bytes.now) }
         ensures faultless { OnOk result (IsFaultless bytes.now) }
+        ensures lie { IfOk result (λ list. LieBetween 0 (length bytes.now) (trees_of list)) }
+        ensures in_file { IfOk result (λ list. AreInFile (length bytes.now) (trees_of list)) }
         ensures within { IfOk result (All (IsWithin (length bytes.now))) }
         ensures in_order { IfOk result (ArePlaced 0 (length bytes.now)) }
         ensures placed { IfOk result (All IsPlaced) }

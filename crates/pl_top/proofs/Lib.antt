@@ -1,20 +1,9 @@
--- words and names
-mod WordLemmas
-mod NameLemmas
-mod ListLemmas
--- predicates, effects, and initial atoms
-mod PredicateLemmas
-mod EffectLemmas
-mod OnceLemmas
--- the task
-pub mod TaskLemmas
--- forms that are the same
-mod SameForms
--- from the forms of two files to what they state
-mod CheckLemmas
--- the lines of a plan
-mod PlanLemmas
 -- the words of a request
 mod RequestLemmas
--- from what was decided and reported to how the run ends
+-- options and results
+mod ResultLemmas
+-- what the reading of a request's files comes to
+mod FileLemmas
+mod ValidateLemmas
+-- from what the parts of a run did to how it ends
 mod RunLemmas

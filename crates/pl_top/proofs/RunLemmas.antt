@@ -1,103 +1,186 @@
--- A decision that was reported is an ending with its cause; without a fault it is an answer, or memory ran out.
-use Rattle.std.proofs.Common.{◌≡◌, ℕ, ◌≤◌, Bool, true, cond, List, length, Option, Some, None, ◌⊎◌, inl, inr, refl, sym, ◌∙◌, ap, subst, nat_le, IfSome, IfNone}
+-- How a run ends, from what its parts did; without a fault it has its answer, or memory ran out.
+use Rattle.std.proofs.Common.{◌≡◌, ◌≢◌, ℕ, ◌≤◌, Bool, true, cond, List, [], length, Option, Some, None, ◌⊎◌, inl, inr, refl, sym, ◌∙◌, ap, subst, nat_le, append-nil, arith}
 use Rattle.std.proofs.lemmas.Bool.{le-leb}
-use Rattle.pl_io.specs.Outside.{NamedBytes, content_of}
-use Rattle.pl_io.specs.declared.reading.TheConstants.{MAX_FILE_BYTES}
-use Rattle.pl_text.specs.Laws.{FormsAreOne}
-use Rattle.pl_text.specs.declared.form.Form.{Form}
+use Rattle.std.specs.Io.KnownBytes.{Appends}
+use Rattle.std.proofs.KnownBytes.{Appends-nil}
+use Rattle.pl_io.specs.Outside.{NamedBytes, ShelfSeen, SinkSeen, AppendsFront, Rose, content_of, most_file_bytes}
 use Rattle.pl_valid.specs.declared.verdict.Verdict.{Verdict}
 use Rattle.pl_valid.specs.declared.verdict.Verdict.TheVariants.{Valid, Invalid, GoalMissed}
-use Rattle.pl_top.specs.declared.decision.Decision.{Decision}
-use Rattle.pl_top.specs.declared.decision.Decision.TheVariants as decision
-use Rattle.pl_top.specs.declared.role.FileRole.{FileRole}
-use Rattle.pl_top.specs.declared.role.FileRole.TheVariants.{Domain, Problem, Plan}
-use Rattle.pl_top.specs.declared.small_form.Checked.TheVariants.{States, NotSmall}
-use Rattle.pl_top.specs.Answer.{Outcome, Whole, Overlong, reading_of, GoesOn, IsRead, IsAnswer, IsJudged, verdict_outcome}
-use Rattle.pl_top.specs.Decision.{outcome_of, Decides, IsForced, Reports}
+use Rattle.pl_top.specs.declared.refusal.Refusal.{Refusal}
+use Rattle.pl_top.specs.declared.refusal.Refusal.TheVariants as refused
+use Rattle.pl_check.specs.declared.role.FileRole.{FileRole}
+use Rattle.pl_check.specs.declared.role.FileRole.TheVariants.{Domain, Problem, Plan}
+use Rattle.pl_top.specs.Answer.{Outcome, Whole, Overlong, reading_of, GoesOn, IsRead, IsAnswer, IsJudged, verdict_outcome, verdict_status}
+use Rattle.pl_top.specs.Refusal.{outcome_of, HasBegun, IsForced, IsOfLast, IsRefused}
 use Rattle.pl_top.specs.Request.{Request, Validate}
-use Rattle.pl_top.specs.Run.{ShelfSeen, SinkSeen, RunEnds, Answered, StoppedReading, StoppedWriting, OutOfMemory, IsComplete}
-use Rattle.pl_top.proofs.SameForms.{same_domain_predicates}
-use Rattle.pl_top.specs.SmallForm.{domain_predicates}
-use Rattle.pl_top.specs.SmallFiles.{IsSmallDomain, IsSmallProblem, IsSmallPlan}
+use Rattle.pl_top.specs.Writing.{Writes}
+use Rattle.pl_top.specs.Run.{Ending, RunEnds, IsCause, AreFaultless, EndsWith, status_of, Answered, StoppedReading, StoppedWriting, OutOfMemory, IsPut, IsLinePut, IsStatusOf, IsComplete}
+use Rattle.pl_check.specs.FirstFault.{IsFirstFault}
+use Rattle.pl_check.specs.PlanLines.{IsPlanFault}
+use Rattle.pl_check.specs.declared.fault.InputFault.{InputFault}
+use Rattle.pl_print.specs.Texts.{fault_text, verdict_text}
+use Rattle.pl_print.specs.declared.fault.Fault.TheVariants as fault
 
 -- at most, as the test
 eq-le : (m n : ℕ) → m ≤ n → nat_le m n ≡ true
 eq-le m n h = le-leb m n h
 
--- a fact of a value that is there, and one where none is
-pub if_some : {T : Type 0} (P : T → Type 0) (o : Option T) (x : T) → Some x ≡ o → P x → IfSome o P
-if_some P o x is h = subst (λ p. IfSome p P) is h
+-- a refusal has no text for `out`
+no_text : (r : Refusal) → (outcome_of r).text ≡ []
+no_text r = refl
 
-pub if_none : {T : Type 0} (P : Type 0) (o : Option T) → None ≡ o → P → IfNone o P
-if_none P o is h = subst (λ p. IfNone p P) is h
+-- nothing was put
+put_nothing : (text : List ℕ) (out out' : SinkSeen) → text ≡ [] → out' ≡ out → IsPut text out out'
+put_nothing text out out' none same = record {
+  whole = subst (λ t. Appends out.written out'.written t) (sym none)
+      (subst (λ (s : SinkSeen). Appends out.written s.written []) (sym same) (Appends-nil out.written));
+  untouched = λ _. same;
+}
 
-module _ (request : Request) (shelf shelf' : ShelfSeen) (out out' err err' : SinkSeen) (result : ℕ) where
-  -- the answer, reported whole or in part
-  answered : (outcome : Outcome) → IsAnswer request shelf.files outcome → shelf'.files ≡ shelf.files → shelf.faults ≤ shelf'.faults →
-      Reports outcome out out' err err' result → RunEnds request shelf shelf' out out' err err' result
-  answered outcome answer files faults (inl r) = record {
+-- no line was put
+no_line : (err err' : SinkSeen) → err' ≡ err → IsLinePut [] err err'
+no_line err err' same =
+    subst (λ (s : SinkSeen). IsLinePut [] err s) (sym same) (record {
+      front = nothing_put err.written;
+      whole = inl (Appends-nil err.written);
+      untouched = λ _. refl;
+    })
+  where
+    nothing_put : (written : Option (List ℕ)) → AppendsFront written written []
+    nothing_put None = tt
+    nothing_put (Some bytes) = (0, omega arith, sym (append-nil bytes))
+
+-- a refusal of status 4 names the file that was begun last
+names_last : (r : Refusal) (roles : List FileRole) → IsOfLast roles r → (outcome_of r).status ≡ 4
+    → (role : FileRole) × ((outcome_of r).line ≡ fault_text (fault.Read role)) × EndsWith roles role
+names_last (refused.CannotRead role) roles last four = (role, refl, last)
+names_last (refused.TooLong role) roles last four = absurd (cc four)
+names_last (refused.Input file line column kind) roles last four = absurd (cc four)
+names_last (refused.Memory error) roles last four = absurd (cc four)
+
+module _ (request : Request) (shelf shelf' : ShelfSeen) (out out' err err' : SinkSeen) where
+  -- the answer, printed whole; a status of 4 is that of no printed answer
+  pub printed : (count : ℕ) (outcome : Outcome) → HasBegun request count shelf shelf'
+      → IsAnswer request shelf.files shelf'.place outcome → outcome.status ≢ 4
+      → IsPut outcome.text out out' → IsLinePut outcome.line err err'
+      → RunEnds request shelf shelf' out out' err err' outcome.status
+  printed count outcome begun answer other put line = record {
     ending = Answered outcome;
     cause = answer;
-    status = r.status;
-    text = r.text;
-    line = r.line;
-    files = files;
-    faults = faults;
-  }
-  answered outcome answer files faults (inr r) = record {
-    ending = StoppedWriting outcome;
-    cause = (answer, r.cause, r.some);
-    status = r.status;
-    text = r.text;
-    line = r.line;
-    files = files;
-    faults = faults;
+    status = refl;
+    text = put;
+    line = line;
+    files = begun.files;
+    faults = begun.faults;
+    begun = record { count = count; names = begun.names; last = λ four. absurd (other four) };
   }
 
-  -- a decision that was forced
-  forced : (d : Decision) → IsForced request shelf shelf' d → shelf'.files ≡ shelf.files → shelf.faults ≤ shelf'.faults →
-      Reports (outcome_of d) out out' err err' result → RunEnds request shelf shelf' out out' err err' result
-  forced (decision.CannotRead role) why files faults (inl r) = record {
+  -- the answer, of which a front was printed
+  pub cut_off : (count : ℕ) (outcome : Outcome) → HasBegun request count shelf shelf'
+      → IsAnswer request shelf.files shelf'.place outcome → outcome.text ≢ []
+      → Rose out.faults out'.faults → AppendsFront out.written out'.written outcome.text
+      → IsLinePut (fault_text fault.Write) err err' → RunEnds request shelf shelf' out out' err err' 5
+  cut_off count outcome begun answer some rose front line = record {
+    ending = StoppedWriting outcome;
+    cause = (answer, rose, some);
+    status = refl;
+    text = front;
+    line = line;
+    files = begun.files;
+    faults = begun.faults;
+    begun = record { count = count; names = begun.names; last = λ four. absurd (cc four) };
+  }
+
+  -- a refusal that is the answer
+  answered : (r : Refusal) → IsRefused request shelf shelf' r
+      → IsAnswer request shelf.files shelf'.place (outcome_of r) → out' ≡ out
+      → IsLinePut (outcome_of r).line err err'
+      → RunEnds request shelf shelf' out out' err err' (outcome_of r).status
+  answered r h answer same line = record {
+    ending = Answered (outcome_of r);
+    cause = answer;
+    status = refl;
+    text = put_nothing (outcome_of r).text out out' (no_text r) same;
+    line = line;
+    files = h.begun.files;
+    faults = h.begun.faults;
+    begun = record { count = h.count; names = h.begun.names; last = names_last r _ h.last };
+  }
+
+  -- a refusal that was forced
+  forced : (r : Refusal) → IsRefused request shelf shelf' r → IsForced request shelf shelf' r
+      → out' ≡ out → IsLinePut (outcome_of r).line err err'
+      → RunEnds request shelf shelf' out out' err err' (outcome_of r).status
+  forced (refused.CannotRead role) h why same line = record {
     ending = StoppedReading role;
     cause = why;
-    status = r.status;
-    text = r.text.untouched refl;
-    line = r.line;
-    files = files;
-    faults = faults;
+    status = refl;
+    text = same;
+    line = line;
+    files = h.begun.files;
+    faults = h.begun.faults;
+    begun = record { count = h.count; names = h.begun.names; last = λ _. (role, refl, h.last) };
   }
-  forced (decision.CannotRead role) why files faults (inr r) = absurd (r.some refl)
-  forced (decision.TooLong role) why files faults reports = absurd why
-  forced (decision.SmallFormOnly role) why files faults reports = absurd why
-  forced (decision.Judged verdict) why files faults reports = absurd why
-  forced decision.OutOfMemory why files faults (inl r) = record {
+  forced (refused.TooLong role) h why same line = absurd why
+  forced (refused.Input file row column kind) h why same line = absurd why
+  forced (refused.Memory error) h why same line = record {
     ending = OutOfMemory;
     cause = tt;
-    status = r.status;
-    text = r.text.untouched refl;
-    line = r.line;
-    files = files;
-    faults = faults;
+    status = refl;
+    text = same;
+    line = line;
+    files = h.begun.files;
+    faults = h.begun.faults;
+    begun = record { count = h.count; names = h.begun.names; last = λ four. absurd (cc four) };
   }
-  forced decision.OutOfMemory why files faults (inr r) = absurd (r.some refl)
 
-  pub run_ends : (d : Decision) → Decides request shelf shelf' d → Reports (outcome_of d) out out' err err' result →
-      RunEnds request shelf shelf' out out' err err' result
-  run_ends d h reports = elim h.sound [
-    | inl answer ↦ answered (outcome_of d) answer h.files h.faults reports
-    | inr why ↦ forced d why h.files h.faults reports
+  -- a refusal, with its line
+  pub refused_run : (r : Refusal) → IsRefused request shelf shelf' r → out' ≡ out
+      → IsLinePut (outcome_of r).line err err'
+      → RunEnds request shelf shelf' out out' err err' (outcome_of r).status
+  refused_run r h same line = elim h.cause [
+    | inl answer ↦ answered r h answer same line
+    | inr why ↦ forced r h why same line
   ]
+
+-- a verdict's text has a byte, and its status isn't 4
+pub verdict_text_some : (v : Verdict) → (verdict_outcome v).text ≢ []
+verdict_text_some (Valid steps) none = cc none
+verdict_text_some (Invalid line reason) none = cc none
+verdict_text_some GoalMissed none = cc none
+
+pub verdict_status_other : (v : Verdict) → (verdict_outcome v).status ≢ 4
+verdict_status_other (Valid steps) four = cc four
+verdict_status_other (Invalid line reason) four = cc four
+verdict_status_other GoalMissed four = cc four
+
+-- a text that was written, whole or in part, after its answer was found
+pub written : (request : Request) (shelf shelf' : ShelfSeen) (out out' err err' : SinkSeen) (result count : ℕ)
+    (outcome : Outcome) → HasBegun request count shelf shelf'
+    → IsAnswer request shelf.files shelf'.place outcome
+    → outcome.line ≡ [] → outcome.status ≢ 4 → Writes outcome.text outcome.status out out' err err' result
+    → RunEnds request shelf shelf' out out' err err' result
+written request shelf shelf' out out' err err' result count outcome begun answer none other (inl w) =
+    subst (RunEnds request shelf shelf' out out' err err') (sym w.status_is)
+    (printed request shelf shelf' out out' err err' count outcome begun answer other w.put
+    (subst (λ l. IsLinePut l err err') (sym none) (no_line err err' w.quiet)))
+written request shelf shelf' out out' err err' result count outcome begun answer none other (inr w) =
+    subst (RunEnds request shelf shelf' out out' err err') (sym w.status_is)
+    (cut_off request shelf shelf' out out' err err' count outcome begun answer w.some w.cause w.front w.line)
 
 -- what is short reads as whole
 short_reading : (bytes : List ℕ) (t : Bool) → t ≡ true → cond t (Whole bytes) Overlong ≡ Whole bytes
 short_reading bytes t is = ap (λ b. cond b (Whole bytes) Overlong) is
 
 -- a told file that is short is read whole
-read_whole : (files : List NamedBytes) (name : List ℕ) (role : FileRole) (outcome : Outcome) (Further : List ℕ → Type 0) (bytes : List ℕ) →
-    content_of files name ≡ Some bytes → length bytes ≤ MAX_FILE_BYTES → IsRead (Some files) name role outcome Further → Further bytes
-read_whole files name role outcome Further bytes told short h =
+read_whole : (files : List NamedBytes) (place : ℕ) (name : List ℕ) (role : FileRole) (outcome : Outcome)
+    (Further : List ℕ → Type 0) (bytes : List ℕ) → content_of files name ≡ Some bytes
+    → length bytes ≤ most_file_bytes
+    → IsRead (Some files) place name role outcome Further → Further bytes
+read_whole files place name role outcome Further bytes told short h =
     let whole : h.reading ≡ Whole bytes =
-    h.of_file ∙ ap reading_of told ∙ short_reading bytes (nat_le (length bytes) MAX_FILE_BYTES) (eq-le (length bytes) MAX_FILE_BYTES short) in
+    h.of_file ∙ ap reading_of told
+    ∙ short_reading bytes (nat_le (length bytes) most_file_bytes) (eq-le (length bytes) most_file_bytes short) in
     subst (GoesOn role outcome Further) whole h.goes_on
 
 -- status 0 or 1
@@ -109,40 +192,38 @@ verdict_has_status (Valid steps) = inl refl
 verdict_has_status (Invalid line reason) = inr refl
 verdict_has_status GoalMissed = inr refl
 
--- files in the small form come to a verdict
-judged_small : FormsAreOne → (domain problem plan : List ℕ) (d p l : List Form) (outcome : Outcome) → IsSmallDomain domain d →
-    IsSmallProblem (domain_predicates domain d) problem p → IsSmallPlan plan l → IsJudged domain problem plan outcome → IsVerdictStatus outcome.status
-judged_small one domain problem plan d p l outcome small_d small_p small_l (States task, checked, (Some lines, read, (v, is, comes))) =
-    subst (λ (o : Outcome). IsVerdictStatus o.status) (sym comes) (verdict_has_status v)
-judged_small one domain problem plan d p l outcome small_d small_p small_l (States task, checked, (None, read, comes)) = absurd (read l small_l)
-judged_small one domain problem plan d p l outcome small_d small_p small_l (NotSmall Domain, checked, comes) = absurd (checked d small_d)
-judged_small one domain problem plan d p l outcome small_d small_p small_l (NotSmall Problem, checked, comes) =
-    let same = same_domain_predicates domain d checked.domain_forms (one domain d checked.domain_forms small_d.are checked.domain_small.are) in
-    absurd (checked.problem_not p (subst (λ ps. IsSmallProblem ps problem p) same small_p))
-judged_small one domain problem plan d p l outcome small_d small_p small_l (NotSmall Plan, checked, comes) = absurd checked
+-- files without a fault come to a verdict
+judged_status : (domain problem plan : List ℕ) (outcome : Outcome)
+    → ((found : InputFault) → IsFirstFault domain problem found → ⊥)
+    → ((found : InputFault) → IsPlanFault plan found → ⊥)
+    → IsJudged domain problem plan outcome → IsVerdictStatus outcome.status
+judged_status domain problem plan outcome no_input no_plan (inl h) = absurd (no_input h.found h.is_first)
+judged_status domain problem plan outcome no_input no_plan (inr h) = elim h.judged [
+  | inl f ↦ absurd (no_plan f.found f.is_first)
+  | inr v ↦ subst (λ (o : Outcome). IsVerdictStatus o.status) (sym v.comes) (verdict_has_status v.verdict)
+]
+
+-- the answer to a request without a fault has one of its statuses
+answer_status : (request : Request) (files : List NamedBytes) (place : ℕ) (outcome : Outcome)
+    → AreFaultless request files → IsAnswer request (Some files) place outcome
+    → IsStatusOf request outcome.status
+answer_status (Validate domain problem plan) files place outcome s answer =
+    let first = read_whole files place domain Domain outcome _ s.domain_bytes s.domain_told s.domain_short answer in
+    let two = read_whole files place problem Problem outcome _ s.problem_bytes s.problem_told s.problem_short first in
+    let three = read_whole files place plan Plan outcome _ s.plan_bytes s.plan_told s.plan_short two in
+    judged_status s.domain_bytes s.problem_bytes s.plan_bytes outcome s.no_input_fault s.no_plan_fault three
 
 -- without a fault a run has its answer, or memory ran out
-pub run_complete : FormsAreOne → (request : Request) (shelf shelf' : ShelfSeen) (out out' err err' : SinkSeen) (result : ℕ) (d : Decision) →
-    Decides request shelf shelf' d → Reports (outcome_of d) out out' err err' result → IsComplete request shelf shelf' out out' result
-run_complete one (Validate domain problem plan) shelf shelf' out out' err err' result d h (inr cut) files told small readable writable = absurd (writable cut.cause)
-run_complete one (Validate domain problem plan) shelf shelf' out out' err err' result d h (inl whole) files told small readable writable =
-    elim h.sound [
-      | inl answer ↦
-          (let s = small in
-          let first = read_whole files domain Domain (outcome_of d) _ s.domain_bytes s.domain_told s.domain_short (subst (λ f. IsAnswer (Validate domain problem plan) f (outcome_of d)) told answer) in
-          let two = read_whole files problem Problem (outcome_of d) _ s.problem_bytes s.problem_told s.problem_short first in
-          let three = read_whole files plan Plan (outcome_of d) _ s.plan_bytes s.plan_told s.plan_short two in
-          of_verdict (judged_small one s.domain_bytes s.problem_bytes s.plan_bytes s.domain_forms s.problem_forms s.plan_forms (outcome_of d) s.domain_small s.problem_small s.plan_small three))
-      | inr why ↦ of_force d why whole.status
-    ]
+pub run_complete : (request : Request) (shelf shelf' : ShelfSeen) (out out' err err' : SinkSeen) (result : ℕ)
+    → RunEnds request shelf shelf' out out' err err' result → IsComplete request shelf shelf' out out' result
+run_complete request shelf shelf' out out' err err' result h files told faultless readable writable =
+    by_ending h.ending h.cause h.status
   where
-    of_verdict : IsVerdictStatus (outcome_of d).status → (result ≡ 0) ⊎ ((result ≡ 1) ⊎ (result ≡ 8))
-    of_verdict (inl zeroth) = inl (whole.status ∙ zeroth)
-    of_verdict (inr first) = inr (inl (whole.status ∙ first))
-
-    of_force : (e : Decision) → IsForced (Validate domain problem plan) shelf shelf' e → result ≡ (outcome_of e).status → (result ≡ 0) ⊎ ((result ≡ 1) ⊎ (result ≡ 8))
-    of_force (decision.CannotRead role) why status = absurd (readable why.0)
-    of_force (decision.TooLong role) why status = absurd why
-    of_force (decision.SmallFormOnly role) why status = absurd why
-    of_force (decision.Judged verdict) why status = absurd why
-    of_force decision.OutOfMemory why status = inr (inr status)
+    by_ending : (ending : Ending) → IsCause request shelf shelf' out out' ending → result ≡ status_of ending
+        → IsStatusOf request result ⊎ (result ≡ 8)
+    by_ending (Answered outcome) cause status =
+        let answer = subst (λ f. IsAnswer request f shelf'.place outcome) told cause in
+        inl (subst (IsStatusOf request) (sym status) (answer_status request files shelf'.place outcome faultless answer))
+    by_ending (StoppedReading role) cause status = absurd (readable cause.0)
+    by_ending (StoppedWriting outcome) cause status = absurd (writable cause.1)
+    by_ending OutOfMemory cause status = inr status

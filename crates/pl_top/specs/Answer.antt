@@ -1,19 +1,22 @@
 -- What the answer to a request is: a relation between the files and the outcome.
-use Rattle.std.specs.Prelude.{◌≡◌, ◌≢◌, ℕ, cond, nat_le, List, [], length, Option, Some, None}
-use Rattle.pl_io.specs.Outside.{NamedBytes, content_of}
-use Rattle.pl_io.specs.declared.reading.TheConstants.{MAX_FILE_BYTES}
+use Rattle.std.specs.Prelude.{◌≡◌, ℕ, ◌+◌, ◌≤◌, cond, nat_le, ◌⊎◌, List, [], length, Option, Some, None}
+use Rattle.pl_io.specs.Outside.{NamedBytes, content_of, most_file_bytes}
+use Rattle.pl_text.specs.Lines.{line_of, column_of}
 use Rattle.pl_task.specs.declared.plan.PlanLine.{PlanLine}
 use Rattle.pl_task.specs.declared.task.Task.{Task}
+use Rattle.pl_check.specs.FirstFault.{IsFirstFault}
+use Rattle.pl_check.specs.PlanLines.{AreLines, IsPlanFault}
+use Rattle.pl_check.specs.Stated.{AreStated}
+use Rattle.pl_check.specs.declared.fault.InputFault.{InputFault}
+use Rattle.pl_check.specs.declared.role.FileRole.{FileRole}
+use Rattle.pl_check.specs.declared.role.FileRole.TheVariants.{Domain, Problem, Plan}
 use Rattle.pl_valid.specs.declared.verdict.Verdict.{Verdict}
 use Rattle.pl_valid.specs.declared.verdict.Verdict.TheVariants.{Valid, Invalid, GoalMissed}
 use Rattle.pl_valid.specs.Verdict.{IsVerdict}
-use Rattle.pl_top.specs.declared.role.FileRole.{FileRole}
-use Rattle.pl_top.specs.declared.role.FileRole.TheVariants.{Domain, Problem, Plan}
-use Rattle.pl_top.specs.declared.small_form.Checked.{Checked}
-use Rattle.pl_top.specs.declared.small_form.Checked.TheVariants.{States, NotSmall}
+use Rattle.pl_print.specs.Texts.{verdict_text, fault_text}
+use Rattle.pl_print.specs.declared.fault.Fault.{Fault}
+use Rattle.pl_print.specs.declared.fault.Fault.TheVariants as fault
 use Rattle.pl_top.specs.Request.{Request, Validate}
-use Rattle.pl_top.specs.SmallFiles.{IsChecked, IsPlanRead}
-use Rattle.pl_top.specs.Texts.{verdict_text, cannot_read_line, too_long_line, small_form_only_line}
 
 -- what a run comes to: a status, a text for `out`, and a line for `err`
 pub record Outcome : Type 0 where
@@ -21,18 +24,22 @@ pub record Outcome : Type 0 where
   pub text : List ℕ
   pub line : List ℕ
 
--- a status with a line, and nothing for `out`
-abbrev pub refusal : ℕ → List ℕ → Outcome
-refusal status line = record { status = status; text = []; line = line }
+-- a status with the line of a fault, and nothing for `out`
+abbrev pub refusal : ℕ → Fault → Outcome
+refusal status why = record { status = status; text = []; line = fault_text why }
 
 abbrev pub cannot_read : FileRole → Outcome
-cannot_read role = refusal 4 (cannot_read_line role)
+cannot_read role = refusal 4 (fault.Read role)
 
 abbrev pub too_long : FileRole → Outcome
-too_long role = refusal 3 (too_long_line role)
+too_long role = refusal 3 (fault.TooLong role)
 
-abbrev pub small_form_only : FileRole → Outcome
-small_form_only role = refusal 3 (small_form_only_line role)
+-- the first fault of a file with these bytes, shown by its line and its column
+abbrev pub shown_fault : List ℕ → InputFault → Fault
+shown_fault bytes found = fault.Input found.file (line_of bytes found.at) (column_of bytes found.at) found.kind
+
+abbrev pub faulty : List ℕ → InputFault → Outcome
+faulty bytes found = refusal 3 (shown_fault bytes found)
 
 -- status 0 for a valid plan, and 1 for any other verdict
 abbrev pub verdict_status : Verdict → ℕ
@@ -52,12 +59,16 @@ pub data Reading : Type 0 where
 -- the reading of a file that is told: it is absent, or has more bytes than are read, or is read whole
 abbrev pub reading_of : Option (List ℕ) → Reading
 reading_of None = Absent
-reading_of (Some bytes) = cond (nat_le (length bytes) MAX_FILE_BYTES) (Whole bytes) Overlong
+reading_of (Some bytes) = cond (nat_le (length bytes) most_file_bytes) (Whole bytes) Overlong
 
--- Told files decide the reading of a name. Of untold ones nothing is known but that they are never found absent.
-abbrev pub IsReadingOf : Option (List NamedBytes) → List ℕ → Reading → Type 0
-IsReadingOf (Some files) name reading = reading ≡ reading_of (content_of files name)
-IsReadingOf None name reading = reading ≢ Absent
+-- Told files decide the reading of a name. Of untold ones it is known that none is absent, that one of which the shelf
+-- gave a byte past the limit is overlong, and that one that is read whole is within the limit. `place` is how many bytes
+-- the shelf has given of the file that was read last, which is the overlong one where there is one.
+abbrev pub IsReadingOf : Option (List NamedBytes) → ℕ → List ℕ → Reading → Type 0
+IsReadingOf (Some files) place name reading = reading ≡ reading_of (content_of files name)
+IsReadingOf None place name Absent = ⊥
+IsReadingOf None place name Overlong = place ≡ most_file_bytes + 1
+IsReadingOf None place name (Whole bytes) = length bytes ≤ most_file_bytes
 
 -- a reading that isn't whole decides the outcome; the bytes of one that is are looked at further
 abbrev pub GoesOn : FileRole → Outcome → (List ℕ → Type 0) → Reading → Type 0
@@ -66,27 +77,52 @@ GoesOn role outcome Further Overlong = outcome ≡ too_long role
 GoesOn role outcome Further (Whole bytes) = Further bytes
 
 -- the file of that name is read, and then what it says is looked at
-pub record IsRead (files : Option (List NamedBytes)) (name : List ℕ) (role : FileRole) (outcome : Outcome) (Further : List ℕ → Type 0) : Type 0 where
+pub record IsRead (files : Option (List NamedBytes)) (place : ℕ) (name : List ℕ) (role : FileRole) (outcome : Outcome)
+    (Further : List ℕ → Type 0) : Type 0 where
   pub reading : Reading
-  pub of_file : IsReadingOf files name reading
+  pub of_file : IsReadingOf files place name reading
   pub goes_on : GoesOn role outcome Further reading
 
--- a plan file that isn't in the small form is refused; else the verdict on its lines is the outcome
-abbrev pub AreLinesJudged : Task → Outcome → Option (List PlanLine) → Type 0
-AreLinesJudged task outcome None = outcome ≡ small_form_only Plan
-AreLinesJudged task outcome (Some lines) = (verdict : Verdict) × IsVerdict task lines verdict × (outcome ≡ verdict_outcome verdict)
+-- the bytes of a domain or of a problem, by the file that a fault names
+abbrev pub bytes_of : List ℕ → List ℕ → FileRole → List ℕ
+bytes_of domain problem Domain = domain
+bytes_of domain problem Problem = problem
+bytes_of domain problem Plan = []
 
--- a domain or a problem that isn't in the small form is refused; else the plan is judged on the task that they state
-abbrev pub IsPlanJudged : List ℕ → Outcome → Checked → Type 0
-IsPlanJudged plan outcome (NotSmall role) = outcome ≡ small_form_only role
-IsPlanJudged plan outcome (States task) = (lines : Option (List PlanLine)) × IsPlanRead plan task lines × AreLinesJudged task outcome lines
+-- domain and problem have a first fault, which is the outcome
+pub record IsInputFault (domain problem : List ℕ) (outcome : Outcome) : Type 0 where
+  pub found : InputFault
+  pub is_first : IsFirstFault domain problem found
+  pub comes : outcome ≡ faulty (bytes_of domain problem found.file) found
+
+-- the plan file has a first fault, which is the outcome
+pub record IsFaultOfPlan (plan : List ℕ) (outcome : Outcome) : Type 0 where
+  pub found : InputFault
+  pub is_first : IsPlanFault plan found
+  pub comes : outcome ≡ faulty plan found
+
+-- the plan file has lines, and the verdict on them is the outcome
+pub record IsVerdictOn (task : Task) (plan : List ℕ) (outcome : Outcome) : Type 0 where
+  pub lines : List PlanLine
+  pub are : AreLines plan task lines
+  pub verdict : Verdict
+  pub is_verdict : IsVerdict task lines verdict
+  pub comes : outcome ≡ verdict_outcome verdict
+
+-- domain and problem state a task, on which the plan is judged
+pub record IsPlanJudged (domain problem plan : List ℕ) (outcome : Outcome) : Type 0 where
+  pub task : Task
+  pub stated : AreStated domain problem task
+  pub judged : IsFaultOfPlan plan outcome ⊎ IsVerdictOn task plan outcome
 
 -- the outcome for the bytes of a domain, a problem and a plan
 abbrev pub IsJudged : List ℕ → List ℕ → List ℕ → Outcome → Type 0
-IsJudged domain problem plan outcome = (checked : Checked) × IsChecked domain problem checked × IsPlanJudged plan outcome checked
+IsJudged domain problem plan outcome = IsInputFault domain problem outcome ⊎ IsPlanJudged domain problem plan outcome
 
 -- the answer to a request: its files are read in this order, and the first that isn't read whole decides
-abbrev pub IsAnswer : Request → Option (List NamedBytes) → Outcome → Type 0
-IsAnswer (Validate domain problem plan) files outcome =
-    IsRead files domain Domain outcome (λ d. IsRead files problem Problem outcome (λ p. IsRead files plan Plan outcome (λ l.
+abbrev pub IsAnswer : Request → Option (List NamedBytes) → ℕ → Outcome → Type 0
+IsAnswer (Validate domain problem plan) files place outcome =
+    IsRead files place domain Domain outcome (λ d.
+    IsRead files place problem Problem outcome (λ p.
+    IsRead files place plan Plan outcome (λ l.
     IsJudged d p l outcome)))

@@ -1,8 +1,8 @@
 -- What a list of words asks for.
-use Rattle.std.specs.Prelude.{ℕ, Bool, not, ◌&&◌, cond, List, [], ◌∷◌, Option, Some, None, codes, bytes_eq, nat_eq}
+use Rattle.std.specs.Prelude.{ℕ, Bool, not, ◌&&◌, cond, List, [], ◌∷◌, map, Option, Some, None, codes, bytes_eq, nat_eq}
 use Rattle.std.specs.List.{starts_with}
-use Rattle.pl_top.specs.declared.role.FileRole.{FileRole}
-use Rattle.pl_top.specs.declared.role.FileRole.TheVariants.{Domain, Problem, Plan}
+use Rattle.pl_check.specs.declared.role.FileRole.{FileRole}
+use Rattle.pl_check.specs.declared.role.FileRole.TheVariants.{Domain, Problem, Plan}
 
 -- a request, by the names of its files
 pub data Request : Type 0 where
@@ -20,8 +20,18 @@ request_of (command ∷ domain ∷ problem ∷ plan ∷ []) =
     (Some (Validate domain problem plan)) None
 request_of words = None
 
--- the name of a request's file
-abbrev pub name_of : Request → FileRole → List ℕ
-name_of (Validate domain problem plan) Domain = domain
-name_of (Validate domain problem plan) Problem = problem
-name_of (Validate domain problem plan) Plan = plan
+-- the files of a request, each with its role, in the order in which they are read
+abbrev pub files_of : Request → List (FileRole × List ℕ)
+files_of (Validate domain problem plan) = (Domain, domain) ∷ (Problem, problem) ∷ (Plan, plan) ∷ []
+
+abbrev pub roles_of : Request → List FileRole
+roles_of request = map (λ (file : FileRole × List ℕ). file.0) (files_of request)
+
+abbrev pub names_of : Request → List (List ℕ)
+names_of request = map (λ (file : FileRole × List ℕ). file.1) (files_of request)
+
+-- the name of a request's file of this role, where it has one
+abbrev pub name_of : Request → FileRole → Option (List ℕ)
+name_of (Validate domain problem plan) Domain = Some domain
+name_of (Validate domain problem plan) Problem = Some problem
+name_of (Validate domain problem plan) Plan = Some plan

@@ -1,27 +1,15 @@
 -- What a run says and leaves: the contract of the top call.
-use Rattle.std.specs.Prelude.{◌≡◌, ◌≢◌, ℕ, ◌≤◌, ◌⊎◌, List, [], length, Option, Some, ⊤, IfSome}
+use Rattle.std.specs.Prelude.{◌≡◌, ◌≢◌, ℕ, ◌≤◌, ◌⊎◌, List, [], ◌∷◌, ◌++◌, take, length, Some, ⊤, IfSome}
 use Rattle.std.specs.Io.KnownBytes.{Appends}
-use Rattle.pl_io.specs.Outside.{NamedBytes, content_of, AppendsFront, Rose}
-use Rattle.pl_io.specs.declared.reading.TheConstants.{MAX_FILE_BYTES}
-use Rattle.pl_text.specs.declared.form.Form.{Form}
-use Rattle.pl_top.specs.declared.role.FileRole.{FileRole}
+use Rattle.pl_io.specs.Outside.{NamedBytes, ShelfSeen, SinkSeen, content_of, most_file_bytes, AppendsFront, BegunThen, Rose}
+use Rattle.pl_check.specs.FirstFault.{IsFirstFault}
+use Rattle.pl_check.specs.PlanLines.{IsPlanFault}
+use Rattle.pl_check.specs.declared.fault.InputFault.{InputFault}
+use Rattle.pl_print.specs.Texts.{fault_text}
+use Rattle.pl_print.specs.declared.fault.Fault.TheVariants as fault
+use Rattle.pl_check.specs.declared.role.FileRole.{FileRole}
 use Rattle.pl_top.specs.Answer.{Outcome, IsAnswer}
-use Rattle.pl_top.specs.Request.{Request, Validate, name_of}
-use Rattle.pl_top.specs.SmallForm.{domain_predicates}
-use Rattle.pl_top.specs.SmallFiles.{IsSmallDomain, IsSmallProblem, IsSmallPlan}
-use Rattle.pl_top.specs.Texts.{cannot_read_line, cannot_write_line, out_of_memory_line}
-
--- what a shelf tells: its files, the name of the file at hand, the bytes given of it, and how many calls failed
-pub record ShelfSeen : Type 0 where
-  pub files : Option (List NamedBytes)
-  pub current : Option (List ℕ)
-  pub place : ℕ
-  pub faults : ℕ
-
--- what a sink tells: the bytes that were written, and how many calls failed
-pub record SinkSeen : Type 0 where
-  pub written : Option (List ℕ)
-  pub faults : ℕ
+use Rattle.pl_top.specs.Request.{Request, Validate, name_of, names_of, roles_of}
 
 -- how a run ends: with its answer, stopped as it read a file, stopped as it wrote its answer, or out of memory
 pub data Ending : Type 0 where
@@ -30,16 +18,18 @@ pub data Ending : Type 0 where
   StoppedWriting : Outcome → Ending
   OutOfMemory : Ending
 
--- where a told file is at hand, it is the request's file of this role
-abbrev pub IsTied : Request → FileRole → ShelfSeen → Type 0
-IsTied request role shelf = IfSome shelf.files (λ _. IfSome shelf.current (λ name. name ≡ name_of request role))
+-- the request has a file of this role; where a told file is at hand, it is that one
+pub record IsTied (request : Request) (role : FileRole) (shelf : ShelfSeen) : Type 0 where
+  pub name : List ℕ
+  pub named : name_of request role ≡ Some name
+  pub at_hand : IfSome shelf.files (λ _. IfSome shelf.current (λ current. current ≡ name))
 
 -- why each ending comes: an answer is the request's answer, each stop has its counted fault, and memory may always run out
 abbrev pub IsCause : Request → ShelfSeen → ShelfSeen → SinkSeen → SinkSeen → Ending → Type 0
-IsCause request shelf shelf' out out' (Answered outcome) = IsAnswer request shelf.files outcome
+IsCause request shelf shelf' out out' (Answered outcome) = IsAnswer request shelf.files shelf'.place outcome
 IsCause request shelf shelf' out out' (StoppedReading role) = Rose shelf.faults shelf'.faults × IsTied request role shelf'
 IsCause request shelf shelf' out out' (StoppedWriting outcome) =
-    IsAnswer request shelf.files outcome × Rose out.faults out'.faults × (outcome.text ≢ [])
+    IsAnswer request shelf.files shelf'.place outcome × Rose out.faults out'.faults × (outcome.text ≢ [])
 IsCause request shelf shelf' out out' OutOfMemory = ⊤
 
 -- the status of an ending
@@ -52,9 +42,9 @@ status_of OutOfMemory = 8
 -- the line of an ending
 abbrev pub line_of : Ending → List ℕ
 line_of (Answered outcome) = outcome.line
-line_of (StoppedReading role) = cannot_read_line role
-line_of (StoppedWriting outcome) = cannot_write_line
-line_of OutOfMemory = out_of_memory_line
+line_of (StoppedReading role) = fault_text (fault.Read role)
+line_of (StoppedWriting outcome) = fault_text fault.Write
+line_of OutOfMemory = fault_text fault.Memory
 
 -- the whole text was appended; of an empty text the sink saw nothing
 pub record IsPut (text : List ℕ) (old new : SinkSeen) : Type 0 where
@@ -74,6 +64,18 @@ pub record IsLinePut (line : List ℕ) (old new : SinkSeen) : Type 0 where
   pub whole : Appends old.written new.written line ⊎ Rose old.faults new.faults
   pub untouched : line ≡ [] → new ≡ old
 
+-- the list has this member last
+abbrev pub EndsWith : List FileRole → FileRole → Type 0
+EndsWith roles role = (before : List FileRole) × (roles ≡ before ++ role ∷ [])
+
+-- The first `count` files of the request were begun, each once, and no other name. Where the status is 4, the line names
+-- the file that was begun last.
+pub record AreBegun (request : Request) (shelf shelf' : ShelfSeen) (ending : Ending) : Type 0 where
+  pub count : ℕ
+  pub names : BegunThen shelf.begun (take count (names_of request)) shelf'.begun
+  pub last : status_of ending ≡ 4
+      → (role : FileRole) × (line_of ending ≡ fault_text (fault.Read role)) × EndsWith (take count (roles_of request)) role
+
 -- a run of a request, from what shelf and sinks told before it to what they tell after it
 pub record RunEnds (request : Request) (shelf shelf' : ShelfSeen) (out out' err err' : SinkSeen) (result : ℕ) : Type 0 where
   pub ending : Ending
@@ -83,31 +85,37 @@ pub record RunEnds (request : Request) (shelf shelf' : ShelfSeen) (out out' err 
   pub line : IsLinePut (line_of ending) err err'
   pub files : shelf'.files ≡ shelf.files
   pub faults : shelf.faults ≤ shelf'.faults
+  pub begun : AreBegun request shelf shelf' ending
 
--- told files that are all there, are read whole, and are in the small form
-pub record AreSmall (files : List NamedBytes) (domain problem plan : List ℕ) : Type 0 where
+-- what holds of a request that takes no probe
+abbrev pub IfProbeless : Request → Type 0 → Type 0
+IfProbeless (Validate domain problem plan) fact = fact
+
+-- told files that are all there, are short enough, and have no fault
+pub record AreJudgeable (files : List NamedBytes) (domain problem plan : List ℕ) : Type 0 where
   pub domain_bytes : List ℕ
   pub problem_bytes : List ℕ
   pub plan_bytes : List ℕ
   pub domain_told : content_of files domain ≡ Some domain_bytes
   pub problem_told : content_of files problem ≡ Some problem_bytes
   pub plan_told : content_of files plan ≡ Some plan_bytes
-  pub domain_short : length domain_bytes ≤ MAX_FILE_BYTES
-  pub problem_short : length problem_bytes ≤ MAX_FILE_BYTES
-  pub plan_short : length plan_bytes ≤ MAX_FILE_BYTES
-  pub domain_forms : List Form
-  pub problem_forms : List Form
-  pub plan_forms : List Form
-  pub domain_small : IsSmallDomain domain_bytes domain_forms
-  pub problem_small : IsSmallProblem (domain_predicates domain_bytes domain_forms) problem_bytes problem_forms
-  pub plan_small : IsSmallPlan plan_bytes plan_forms
+  pub domain_short : length domain_bytes ≤ most_file_bytes
+  pub problem_short : length problem_bytes ≤ most_file_bytes
+  pub plan_short : length plan_bytes ≤ most_file_bytes
+  pub no_input_fault : (found : InputFault) → IsFirstFault domain_bytes problem_bytes found → ⊥
+  pub no_plan_fault : (found : InputFault) → IsPlanFault plan_bytes found → ⊥
 
+-- the told files have nothing for which the request would be refused
 abbrev pub AreFaultless : Request → List NamedBytes → Type 0
-AreFaultless (Validate domain problem plan) files = AreSmall files domain problem plan
+AreFaultless (Validate domain problem plan) files = AreJudgeable files domain problem plan
+
+-- the statuses of a request that is not refused
+abbrev pub IsStatusOf : Request → ℕ → Type 0
+IsStatusOf (Validate domain problem plan) status = (status ≡ 0) ⊎ (status ≡ 1)
 
 -- where the files are told and without a fault, and neither the shelf nor `out` failed, a run has its answer or runs out of memory
 abbrev pub IsComplete : Request → ShelfSeen → ShelfSeen → SinkSeen → SinkSeen → ℕ → Type 0
 IsComplete request shelf shelf' out out' result =
     (files : List NamedBytes) → shelf.files ≡ Some files → AreFaultless request files →
     (Rose shelf.faults shelf'.faults → ⊥) → (Rose out.faults out'.faults → ⊥) →
-    (result ≡ 0) ⊎ ((result ≡ 1) ⊎ (result ≡ 8))
+    IsStatusOf request result ⊎ (result ≡ 8)

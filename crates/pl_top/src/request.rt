@@ -3,7 +3,7 @@
 ghost use Rattle.std.specs.Prelude.{◌≡◌, Option};
 ghost use Rattle.std.specs.Option.{option_map};
 ghost use Rattle.pl_top.specs.Request as spec;
-ghost use Rattle.pl_top.specs.Decision.{named};
+ghost use Rattle.pl_top.specs.Asked.{named};
 
 use crate::words::Words;
 

@@ -1,21 +1,24 @@
 //! The top call.
 
-ghost use Rattle.std.specs.Prelude.{◌≡◌, IfSome, IfNone};
+ghost use Rattle.std.specs.Prelude.{◌≡◌, [], IfSome, IfNone};
+ghost use Rattle.pl_print.specs.Texts.{fault_text};
+ghost use Rattle.pl_print.specs.declared.fault.Fault.TheVariants as fault;
+ghost use Rattle.pl_top.specs.Asked.{named};
 ghost use Rattle.pl_top.specs.Request as spec;
-ghost use Rattle.pl_top.specs.Run.{RunEnds, IsComplete, IsLinePut};
-ghost use Rattle.pl_top.specs.Texts.{bad_words_line};
+ghost use Rattle.pl_top.specs.Run.{RunEnds, IsComplete, IsLinePut, IfProbeless};
 
-use crate::deciding::decide;
-use crate::reporting::{put_line, report};
-use crate::request::request_of;
+use crate::refusal::put_line;
+use crate::request::{Request, request_of};
+use crate::validating::validate;
 use crate::words::Words;
 use pl_io::{Shelf, Sink};
+use pl_print::Fault;
 use pl_steps::Steps;
-use pl_text::laws::forms_are_one;
 use std::alloc::Global;
 use std::sync::ledger::Ledger;
 
-/// Does what the words ask: reads the files from the shelf, writes the answer to `out` and a refusal's line to `err`, and answers the exit status.
+/// Does what the words ask: reads the files from the shelf, writes the answer to `out` and a refusal's line to `err`, and
+/// answers the exit status. `steps` counts the probes of the run.
 pub fn run<S: Shelf, O: Sink, E: Sink, L: Ledger>(
     alloc: Global,
     words: &Words,
@@ -24,32 +27,48 @@ pub fn run<S: Shelf, O: Sink, E: Sink, L: Ledger>(
     err: &mut E,
     steps: &mut Steps<L>,
 ) -> u8
-    ensures no_request { IfNone (spec.request_of words.now) ((result ≡ 2) × (shelf.new ≡ shelf.old) × (out.new ≡ out.old)) }
-    ensures bad_words { IfNone (spec.request_of words.now) (IsLinePut bad_words_line
-        (record { written = E.written err.old; faults = E.faults err.old }) (record { written = E.written err.new; faults = E.faults err.new })) }
-    ensures ends { IfSome (spec.request_of words.now) (λ request. RunEnds request
-        (record { files = S.files shelf.old; current = S.current shelf.old; place = S.place shelf.old; faults = S.faults shelf.old })
-        (record { files = S.files shelf.new; current = S.current shelf.new; place = S.place shelf.new; faults = S.faults shelf.new })
-        (record { written = O.written out.old; faults = O.faults out.old }) (record { written = O.written out.new; faults = O.faults out.new })
-        (record { written = E.written err.old; faults = E.faults err.old }) (record { written = E.written err.new; faults = E.faults err.new })
-        result) }
-    ensures complete { IfSome (spec.request_of words.now) (λ request. IsComplete request
-        (record { files = S.files shelf.old; current = S.current shelf.old; place = S.place shelf.old; faults = S.faults shelf.old })
-        (record { files = S.files shelf.new; current = S.current shelf.new; place = S.place shelf.new; faults = S.faults shelf.new })
-        (record { written = O.written out.old; faults = O.faults out.old }) (record { written = O.written out.new; faults = O.faults out.new })
-        result) }
+    ensures no_request { IfNone (spec.request_of words.now)
+        ((result ≡ 2) × (shelf.new ≡ shelf.old) × (out.new ≡ out.old) × (steps.new ≡ steps.old)) }
+    ensures bad_words { IfNone (spec.request_of words.now)
+        (IsLinePut (fault_text fault.Words) (E.seen err.old) (E.seen err.new)) }
+    ensures ends { IfSome (spec.request_of words.now) (λ request.
+        RunEnds request (S.seen shelf.old) (S.seen shelf.new) (O.seen out.old) (O.seen out.new)
+        (E.seen err.old) (E.seen err.new) result) }
+    ensures no_file { IfSome (spec.request_of words.now) (λ request.
+        spec.names_of request ≡ [] → shelf.new ≡ shelf.old) }
+    ensures probes { IfSome (spec.request_of words.now) (λ request.
+        IfProbeless request (steps.new ≡ steps.old)) }
+    ensures complete { IfSome (spec.request_of words.now) (λ request.
+        IsComplete request (S.seen shelf.old) (S.seen shelf.new) (O.seen out.old) (O.seen out.new) result) }
 {
-    let _ = steps;
     match request_of(words) {
         None => {
-            put_line(err, &[b"powerlift: bad words\n"]);
+            put_line(err, &Fault::Words);
             2
         }
-        Some(request) => {
-            // A file has one list of forms, so its bytes alone decide what it states.
-            forms_are_one();
-            let decision = decide(alloc, &request, shelf);
-            report(&decision, out, err)
-        }
+        Some(request) => perform(alloc, &request, shelf, out, err, steps),
+    }
+}
+
+/// Calls the command that is asked for.
+fn perform<S: Shelf, O: Sink, E: Sink, L: Ledger>(
+    alloc: Global,
+    request: &Request<'_>,
+    shelf: &mut S,
+    out: &mut O,
+    err: &mut E,
+    _steps: &mut Steps<L>,
+) -> u8
+    ensures ends { RunEnds (named request.now) (S.seen shelf.old) (S.seen shelf.new)
+        (O.seen out.old) (O.seen out.new) (E.seen err.old) (E.seen err.new) result }
+    ensures no_file { spec.names_of (named request.now) ≡ [] → shelf.new ≡ shelf.old }
+    ensures probes { IfProbeless (named request.now) (_steps.new ≡ _steps.old) }
+{
+    match *request {
+        Request::Validate {
+            domain,
+            problem,
+            plan,
+        } => validate(alloc, domain, problem, plan, shelf, out, err),
     }
 }

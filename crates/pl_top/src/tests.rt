@@ -22,6 +22,14 @@ const HOP: &str = "(define (domain hop)
   :effect (and (not (at ?x)) (at ?y))))
 ";
 
+/// The same domain, where the place must not be taken.
+const ONCE: &str = "(define (domain hop)
+ (:predicates (at ?x) (link ?x ?y))
+ (:action hop :parameters (?x ?y)
+  :precondition (and (at ?x) (link ?x ?y) (not (at ?y)))
+  :effect (and (not (at ?x)) (at ?y))))
+";
+
 /// Three places in a row, with the goal at the end.
 const ROW: &str = "(define (problem h) (:domain hop) (:objects a b c)
  (:init (at a) (link a b) (link b c)) (:goal (at c)))
@@ -170,215 +178,61 @@ const JUDGED: &[Judged] = &[
     (SWITCHES, READY, "(wait)(WAIT)(push)", 0, "valid 3\n"),
     (SWITCHES, READY, "(wait)", 1, "goal missed\n"),
     (SWITCHES, READY, "(push a)", 1, "invalid 1 arguments\n"),
+    // No step leads to a place where one is already.
+    (ONCE, SELF, "(hop a a)", 1, "invalid 1 inapplicable\n"),
+    (ONCE, ROW, ALONG, 0, "valid 2\n"),
 ];
 
-/// Files of which one is not in the small form, with its name.
-type Refused = (&'static str, &'static str, &'static str, &'static str);
+/// Files of which one is faulty, with the line for the fault.
+type Faulty = (&'static str, &'static str, &'static str, &'static str);
 
-const REFUSED: &[Refused] = &[
-    ("", ROW, "", "domain"),
-    ("()", ROW, "", "domain"),
-    ("(", ROW, "", "domain"),
-    ("define", ROW, "", "domain"),
-    ("(define (domain d) (:predicates)) ()", ROW, "", "domain"),
-    ("(define (domain d))", ROW, "", "domain"),
-    ("(define (problem d) (:predicates))", ROW, "", "domain"),
-    ("(define (domain ?d) (:predicates))", ROW, "", "domain"),
+/// A condition over a predicate that isn't declared, before an effect over a variable that is no parameter.
+const TWO_FAULTS: &str = "(define (domain d)
+(:predicates (p ?x))
+(:action a :parameters (?x)
+ :precondition (q ?x)
+ :effect (p ?y)))
+";
+
+const FAULTY: &[Faulty] = &[
+    ("", ROW, "", "powerlift: domain:1:1: not one form\n"),
+    ("(", ROW, "", "powerlift: domain:1:1: unclosed bracket\n"),
     (
-        "(define (domain d) (:predicates) (:predicates))",
+        TWO_FAULTS,
         ROW,
         "",
-        "domain",
+        "powerlift: domain:4:16: unknown predicate\n",
     ),
+    // A text fault of the problem comes before any other fault of the domain.
     (
-        "(define (domain d) (:constants a) (:predicates))",
-        ROW,
+        TWO_FAULTS,
+        "\n )",
         "",
-        "domain",
-    ),
-    (
-        "(define (domain d) (:predicates (p ?x - t)))",
-        ROW,
-        "",
-        "domain",
-    ),
-    ("(define (domain d) (:predicates (p x)))", ROW, "", "domain"),
-    ("(define (domain d) (:predicates (and)))", ROW, "", "domain"),
-    (
-        "(define (domain d) (:predicates (p) (P ?x)))",
-        ROW,
-        "",
-        "domain",
-    ),
-    (
-        "(define (domain d) (:action a :parameters () :precondition (and) :effect (and)) (:predicates))",
-        ROW,
-        "",
-        "domain",
-    ),
-    (
-        "(define (domain d) (:predicates) (:action a :parameters () :precondition (and) :effect (and)) (:action A :parameters () :precondition (and) :effect (and)))",
-        ROW,
-        "",
-        "domain",
-    ),
-    (
-        "(define (domain d) (:predicates) (:action a :parameters (?x ?X) :precondition (and) :effect (and)))",
-        ROW,
-        "",
-        "domain",
-    ),
-    (
-        "(define (domain d) (:predicates) (:action a :parameters (x) :precondition (and) :effect (and)))",
-        ROW,
-        "",
-        "domain",
-    ),
-    (
-        "(define (domain d) (:predicates) (:action a :parameters x :precondition (and) :effect (and)))",
-        ROW,
-        "",
-        "domain",
-    ),
-    (
-        "(define (domain d) (:predicates) (:action a :precondition (and) :parameters () :effect (and)))",
-        ROW,
-        "",
-        "domain",
-    ),
-    (
-        "(define (domain d) (:predicates) (:action a :parameters () :precondition (and)))",
-        ROW,
-        "",
-        "domain",
-    ),
-    (
-        "(define (domain d) (:predicates (p)) (:action a :parameters () :precondition (p) :effect (and)))",
-        ROW,
-        "",
-        "domain",
-    ),
-    (
-        "(define (domain d) (:predicates (p)) (:action a :parameters () :precondition (and (q)) :effect (and)))",
-        ROW,
-        "",
-        "domain",
-    ),
-    (
-        "(define (domain d) (:predicates (p ?x)) (:action a :parameters (?x) :precondition (and (p)) :effect (and)))",
-        ROW,
-        "",
-        "domain",
-    ),
-    (
-        "(define (domain d) (:predicates (p ?x)) (:action a :parameters (?x) :precondition (and (p ?y)) :effect (and)))",
-        ROW,
-        "",
-        "domain",
-    ),
-    (
-        "(define (domain d) (:predicates (p ?x)) (:action a :parameters (?x) :precondition (and (p c)) :effect (and)))",
-        ROW,
-        "",
-        "domain",
-    ),
-    (
-        "(define (domain d) (:predicates (p)) (:action a :parameters () :precondition (and (not (p))) :effect (and)))",
-        ROW,
-        "",
-        "domain",
-    ),
-    (
-        "(define (domain d) (:predicates (p)) (:action a :parameters () :precondition (and) :effect (and (not (p) (p)))))",
-        ROW,
-        "",
-        "domain",
-    ),
-    (
-        "(define (domain d) (:predicates (p)) (:action a :parameters () :precondition (and) :effect (p)))",
-        ROW,
-        "",
-        "domain",
-    ),
-    ("(", "(", "x", "domain"),
-    (HOP, "", "", "problem"),
-    (HOP, "()", "x", "problem"),
-    (
-        HOP,
-        "(define (problem h) (:domain hop) (:objects a) (:init))",
-        "",
-        "problem",
+        "powerlift: problem:2:2: stray bracket\n",
     ),
     (
         HOP,
-        "(define (problem h) (:objects a) (:domain hop) (:init) (:goal (at a)))",
+        "(define (problem h) (:domain hop)\n (:objects a - t))",
         "",
-        "problem",
+        "powerlift: problem:2:16: unknown type\n",
+    ),
+    (HOP, ROW, "hop a b", "powerlift: plan:1:1: bad form\n"),
+    (
+        HOP,
+        ROW,
+        "(hop a b)\n  ()",
+        "powerlift: plan:2:3: bad form\n",
     ),
     (
         HOP,
-        "(define (problem h) (:domain hop) (:objects a A) (:init) (:goal (at a)))",
-        "",
-        "problem",
+        ROW,
+        "(hop a b",
+        "powerlift: plan:1:1: unclosed bracket\n",
     ),
-    (
-        HOP,
-        "(define (problem h) (:domain hop) (:objects a - t) (:init) (:goal (at a)))",
-        "",
-        "problem",
-    ),
-    (
-        HOP,
-        "(define (problem h) (:domain hop) (:objects a) (:init (at b)) (:goal (at a)))",
-        "",
-        "problem",
-    ),
-    (
-        HOP,
-        "(define (problem h) (:domain hop) (:objects a) (:init (on a)) (:goal (at a)))",
-        "",
-        "problem",
-    ),
-    (
-        HOP,
-        "(define (problem h) (:domain hop) (:objects a) (:init (at a a)) (:goal (at a)))",
-        "",
-        "problem",
-    ),
-    (
-        HOP,
-        "(define (problem h) (:domain hop) (:objects a) (:init (not (at a))) (:goal (at a)))",
-        "",
-        "problem",
-    ),
-    (
-        HOP,
-        "(define (problem h) (:domain hop) (:objects a) (:init) (:goal (not (at a))))",
-        "",
-        "problem",
-    ),
-    (
-        HOP,
-        "(define (problem h) (:domain hop) (:objects a) (:init) (:goal (and (not (at a)))))",
-        "",
-        "problem",
-    ),
-    (
-        HOP,
-        "(define (problem h) (:domain hop) (:objects a) (:init) (:goal))",
-        "",
-        "problem",
-    ),
-    (
-        HOP,
-        "(define (problem h) (:domain hop) (:objects a) (:init) (:goal (at a)) (:goal (at a)))",
-        "",
-        "problem",
-    ),
-    (HOP, ROW, "hop a b", "plan"),
-    (HOP, ROW, "(hop a b) ()", "plan"),
-    (HOP, ROW, "(hop (a) b)", "plan"),
-    (HOP, ROW, "(hop a b", "plan"),
+    (HOP, ROW, "(hop a b)\té", "powerlift: plan:1:11: bad byte\n"),
+    // The plan is looked at last.
+    ("(", "(", "(", "powerlift: domain:1:1: unclosed bracket\n"),
+    (HOP, "", "(", "powerlift: problem:1:1: not one form\n"),
 ];
 
 /// The files of the usual words.
@@ -407,10 +261,8 @@ fn plans_are_judged(rt: HostRuntime) -> Result<(), Fail> {
 }
 
 #[test]
-fn other_forms_are_refused(rt: HostRuntime) -> Result<(), Fail> {
-    let alloc = rt.alloc();
-    for (i, (domain, problem, plan, file)) in REFUSED.iter().enumerate() {
-        let line = format!(in alloc; "powerlift: {file}: small form only\n")?;
+fn faults_are_shown(rt: HostRuntime) -> Result<(), Fail> {
+    for (i, (domain, problem, plan, line)) in FAULTY.iter().enumerate() {
         let case = Case {
             words: VALIDATE,
             files: &three(domain, problem, plan),
@@ -420,9 +272,9 @@ fn other_forms_are_refused(rt: HostRuntime) -> Result<(), Fail> {
             piece: 7,
             status: 3,
             out: "",
-            err: line.as_str(),
+            err: line,
         };
-        let met = is_met::<Brand>(alloc, &case, Blank::new(1))?;
+        let met = is_met::<Brand>(rt.alloc(), &case, Blank::new(1))?;
         assert!(rt; met, "case {i}");
     }
     Ok(())
@@ -518,7 +370,7 @@ const OUTSIDE: &[Case<'static>] = &[
         piece: 7,
         status: 3,
         out: "",
-        err: "powerlift: problem: small form only\n",
+        err: "powerlift: problem:1:9: bad form\n",
     },
     Case {
         words: VALIDATE,
@@ -542,7 +394,7 @@ const OUTSIDE: &[Case<'static>] = &[
         out: "",
         err: "powerlift: cannot read domain\n",
     },
-    // A missing file comes before a form that isn't small.
+    // A missing file comes before a fault.
     Case {
         words: VALIDATE,
         files: &[("d", "("), ("p", "(")],
@@ -699,23 +551,104 @@ fn failures_have_their_answers(rt: HostRuntime) -> Result<(), Fail> {
     Ok(())
 }
 
-/// The files of the usual words, with so many blanks as the domain and no problem.
-fn blank_domain(alloc: Global, length: usize) -> Result<Vec<NamedFile>, AllocError> {
-    let mut files = files_of(alloc, &[("l", ALONG)])?;
+/// So many calls are made of the shelf for a file that is given seven bytes a call: it is begun, its bytes are given, and
+/// then none.
+fn calls_for(text: &str) -> u64 {
+    let whole = (text.len() / 7) as u64;
+    if text.len() % 7 == 0 {
+        whole + 2
+    } else {
+        whole + 3
+    }
+}
+
+/// The line that blames the file whose reading has this call of the shelf, and none past the last file.
+fn blamed(call: u64) -> Option<&'static str> {
+    let domain = calls_for(HOP).min(100);
+    let problem = calls_for(ROW).min(100);
+    let plan = calls_for(ALONG).min(100);
+    if call <= domain {
+        Some("powerlift: cannot read domain\n")
+    } else if call <= domain + problem {
+        Some("powerlift: cannot read problem\n")
+    } else if call <= domain + problem + plan {
+        Some("powerlift: cannot read plan\n")
+    } else {
+        None
+    }
+}
+
+#[test]
+fn each_failing_call_blames_its_file(rt: HostRuntime) -> Result<(), Fail> {
+    for call in 1..80 {
+        let line = blamed(call);
+        let case = Case {
+            words: VALIDATE,
+            files: SHELF,
+            failing_reads: &[call],
+            failing_writes: &[],
+            failing_lines: &[],
+            piece: 7,
+            status: if line.is_some() { 4 } else { 0 },
+            out: if line.is_some() { "" } else { "valid 2\n" },
+            err: line.unwrap_or(""),
+        };
+        let met = is_met::<Brand>(rt.alloc(), &case, Blank::new(1))?;
+        assert!(rt; met, "call {call}");
+    }
+    Ok(())
+}
+
+#[test]
+fn a_failing_line_is_cut_off(rt: HostRuntime) -> Result<(), Fail> {
+    // The line of 21 bytes takes six calls of four.
+    for (call, written) in [
+        (1, ""),
+        (2, "powe"),
+        (3, "powerlif"),
+        (4, "powerlift: b"),
+        (5, "powerlift: bad w"),
+        (6, "powerlift: bad words"),
+        (7, "powerlift: bad words\n"),
+    ] {
+        let case = Case {
+            words: &["validate"],
+            files: SHELF,
+            failing_reads: &[],
+            failing_writes: &[],
+            failing_lines: &[call],
+            piece: 4,
+            status: 2,
+            out: "",
+            err: written,
+        };
+        let met = is_met::<Brand>(rt.alloc(), &case, Blank::new(1))?;
+        assert!(rt; met, "call {call}");
+    }
+    Ok(())
+}
+
+/// A domain of one byte so often, and the problem and the plan of most cases.
+fn long_domain(alloc: Global, byte: u8, length: usize) -> Result<Vec<NamedFile>, AllocError> {
+    let mut files = files_of(alloc, &[("p", ROW), ("l", ALONG)])?;
     files.push(NamedFile {
         name: bytes_of(alloc, "d")?,
-        bytes: vec![in alloc; b' '; length]?,
+        bytes: vec![in alloc; byte; length]?,
     })?;
     Ok(files)
 }
 
 #[test]
-fn a_longer_domain_is_too_long(rt: HostRuntime) -> Result<(), Fail> {
+fn long_domains_have_their_faults(rt: HostRuntime) -> Result<(), Fail> {
     let alloc = rt.alloc();
-    // A domain that is too long is told before a missing problem, and a missing problem before the domain's form.
-    for (length, status, err) in [
-        (16777217, 3, "powerlift: domain: too long\n"),
-        (16777216, 4, "powerlift: cannot read problem\n"),
+    for (byte, length, err) in [
+        (b' ', 16777217, "powerlift: domain: too long\n"),
+        (
+            b' ',
+            16777216,
+            "powerlift: domain:1:16777217: not one form\n",
+        ),
+        (b'(', 201, "powerlift: domain:1:201: too deep\n"),
     ] {
         let case = Case {
             words: VALIDATE,
@@ -724,11 +657,11 @@ fn a_longer_domain_is_too_long(rt: HostRuntime) -> Result<(), Fail> {
             failing_writes: &[],
             failing_lines: &[],
             piece: 1000000,
-            status,
+            status: 3,
             out: "",
             err,
         };
-        let files = blank_domain(alloc, length)?;
+        let files = long_domain(alloc, byte, length)?;
         let met = is_met_over::<Brand>(alloc, &case, files, Blank::new(1))?;
         assert!(rt; met, "{length} bytes");
     }
@@ -757,8 +690,8 @@ fn limits_of_an_action(rt: HostRuntime) -> Result<(), Fail> {
     let alloc = rt.alloc();
     for (parameters, literals, status, out, err) in [
         (64, 1024, 1, "goal missed\n", ""),
-        (65, 1024, 3, "", "powerlift: domain: small form only\n"),
-        (64, 1025, 3, "", "powerlift: domain: small form only\n"),
+        (65, 1024, 3, "", "powerlift: domain:1:67: too many\n"),
+        (64, 1025, 3, "", "powerlift: domain:1:394: too many\n"),
     ] {
         let domain = wide_domain(alloc, parameters, literals)?;
         let case = Case {
@@ -779,5 +712,80 @@ fn limits_of_an_action(rt: HostRuntime) -> Result<(), Fail> {
         let met = is_met::<Brand>(alloc, &case, Blank::new(1))?;
         assert!(rt; met, "{parameters} parameters, {literals} literals");
     }
+    Ok(())
+}
+
+/// How many objects, predicates, actions, initial atoms and lines of the plan there are of each.
+const MANY: usize = 1100;
+
+/// A domain in which action `i` leads from predicate `i` to the next one.
+fn many_actions(alloc: Global) -> Result<String, AllocError> {
+    let mut text = String::from_str(alloc, "(define (domain chain) (:predicates")?;
+    for i in 0..MANY + 1 {
+        write!(text, " (stage-{i} ?thing)")?;
+    }
+    text.push_str(")\n")?;
+    for i in 0..MANY {
+        let next = i + 1;
+        write!(
+            text,
+            " (:action step-{i} :parameters (?thing) :precondition (and (stage-{i} ?thing)) :effect (and (not (stage-{i} ?thing)) (stage-{next} ?thing)))\n"
+        )?;
+    }
+    text.push_str(")\n")?;
+    Ok(text)
+}
+
+/// A problem in which each object is at the first predicate, and object 7 is to get to the last.
+fn many_objects(alloc: Global) -> Result<String, AllocError> {
+    let mut text = String::from_str(alloc, "(define (problem far) (:domain chain) (:objects")?;
+    for i in 0..MANY {
+        write!(text, " thing-of-a-rather-long-name-that-has-the-number-{i}")?;
+    }
+    text.push_str(")\n (:init")?;
+    for i in 0..MANY {
+        write!(
+            text,
+            " (stage-0 thing-of-a-rather-long-name-that-has-the-number-{i})"
+        )?;
+    }
+    write!(
+        text,
+        ")\n (:goal (stage-{MANY} thing-of-a-rather-long-name-that-has-the-number-7)))\n"
+    )?;
+    Ok(text)
+}
+
+/// Its plan.
+fn many_lines(alloc: Global) -> Result<String, AllocError> {
+    let mut text = String::new(alloc);
+    for i in 0..MANY {
+        write!(
+            text,
+            "(step-{i} thing-of-a-rather-long-name-that-has-the-number-7) ; on the way to the end of a chain that is long\n"
+        )?;
+    }
+    Ok(text)
+}
+
+#[test]
+fn large_files_are_judged(rt: HostRuntime) -> Result<(), Fail> {
+    let alloc = rt.alloc();
+    let domain = many_actions(alloc)?;
+    let problem = many_objects(alloc)?;
+    let plan = many_lines(alloc)?;
+    assert!(rt; domain.len() > 100_000 && problem.len() > 100_000 && plan.len() > 100_000);
+    let case = Case {
+        words: VALIDATE,
+        files: &three(&domain, &problem, &plan),
+        failing_reads: &[],
+        failing_writes: &[],
+        failing_lines: &[],
+        piece: 5000,
+        status: 0,
+        out: "valid 1100\n",
+        err: "",
+    };
+    assert!(rt; is_met::<Brand>(alloc, &case, Blank::new(1))?);
     Ok(())
 }

@@ -26,8 +26,11 @@ pub fn judge(alloc: Global, task: &Task, lines: &[PlanLine]) -> Result<Verdict, 
     for (i, line) in lines.iter().enumerate() {
         let refusal = execute_line(alloc, task, &mut types, &mut atoms, line)?;
         if let Some(reason) = refusal {
-            let step = (i + 1) as u32;
-            return Ok(Verdict::Invalid { step, reason });
+            let number = (i + 1) as u32;
+            return Ok(Verdict::Invalid {
+                line: number,
+                reason,
+            });
         }
     }
     if !meets_goal(task, &atoms) {

@@ -57,42 +57,42 @@ const CASES: &[Case] = &[
     Case {
         lines: &[Line::Pass(0, 1)],
         verdict: Verdict::Invalid {
-            step: 1,
+            line: 1,
             reason: Reason::Inapplicable,
         },
     },
     Case {
         lines: &[Line::Light(1), Line::Pass(1, 1)],
         verdict: Verdict::Invalid {
-            step: 2,
+            line: 2,
             reason: Reason::Inapplicable,
         },
     },
     Case {
         lines: &[Line::Light(0), Line::Pass(0, 1), Line::Pass(0, 1)],
         verdict: Verdict::Invalid {
-            step: 3,
+            line: 3,
             reason: Reason::Inapplicable,
         },
     },
     Case {
         lines: &[Line::Light(1), Line::UnknownAction, Line::Pass(0, 1)],
         verdict: Verdict::Invalid {
-            step: 2,
+            line: 2,
             reason: Reason::UnknownAction,
         },
     },
     Case {
         lines: &[Line::Arguments],
         verdict: Verdict::Invalid {
-            step: 1,
+            line: 1,
             reason: Reason::Arguments,
         },
     },
     Case {
         lines: &[Line::Light(1), Line::UnknownObject],
         verdict: Verdict::Invalid {
-            step: 2,
+            line: 2,
             reason: Reason::UnknownObject,
         },
     },

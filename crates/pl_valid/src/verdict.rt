@@ -8,7 +8,7 @@ pub enum Verdict {
     /// A line cannot be executed after the lines before it.
     Invalid {
         /// The number of the first such line, from 1.
-        step: u32,
+        line: u32,
         /// Why it cannot.
         reason: Reason,
     },

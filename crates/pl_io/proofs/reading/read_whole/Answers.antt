@@ -10,6 +10,7 @@ loop-bytes-preserved g c =
       at_hand = rw c.read_piece.ensures.current so_far.at_hand;
       files = piece.files ∙ so_far.files;
       place = piece.place;
+      begun = rw c.read_piece.ensures.begun so_far.begun;
       held = piece.held;
       within = piece.within;
       given = Consumes-take-add _ _ _ c.loop-bytes.bytes.items _ _ _ piece.kept so_far.given piece.given;

@@ -1,21 +1,22 @@
-use Rattle.std.proofs.Common.{◌≡◌, ◌-◌, ◌≤◌, take, vec_len}
+use Rattle.std.proofs.Common.{◌≡◌, ◌-◌, ◌≤◌, [], ◌∷◌, take, vec_len}
 use Rattle.std.specs.Io.KnownBytes.{Consumes}
-use Rattle.pl_io.specs.Outside.{IsAtHand, known_content, left_of}
+use Rattle.pl_io.specs.Outside.{IsAtHand, BegunThen, known_content, left_in}
 use Rattle.pl_io.proofs.reading.read_whole.Given as goal
 
 -- the bytes read so far, and then what the shelf has left, are the file
 abbrev pub invariant-loop-bytes : goal.invariant-loop-bytes
 invariant-loop-bytes g l =
-    let shelf = g.S.Shelf in
+    let before = g.S.Shelf.seen l.fn.shelf in
+    let shelf = g.S.Shelf.seen l.shelf in
     record {
-      at_hand : IsAtHand (shelf.files l.fn.shelf) l.name (shelf.current l.shelf);
-      files : shelf.files l.shelf ≡ shelf.files l.fn.shelf;
-      place : shelf.place l.shelf ≡ l.filled;
+      at_hand : IsAtHand before.files l.name shelf.current;
+      files : shelf.files ≡ before.files;
+      place : shelf.place ≡ l.filled;
+      begun : BegunThen before.begun (l.name ∷ []) shelf.begun;
       held : l.filled ≤ vec_len l.bytes;
       within : l.filled ≤ 16777216;
-      given : Consumes (known_content (shelf.files l.fn.shelf) l.name)
-          (left_of (shelf.files l.shelf) (shelf.current l.shelf) (shelf.place l.shelf)) (take l.filled l.bytes.items);
-      later : shelf.faults l.fn.shelf ≤ shelf.faults l.shelf;
+      given : Consumes (known_content before.files l.name) (left_in shelf) (take l.filled l.bytes.items);
+      later : before.faults ≤ shelf.faults;
     }
 
 abbrev pub decreases-loop-bytes : goal.decreases-loop-bytes

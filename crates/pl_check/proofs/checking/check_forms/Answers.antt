@@ -1,0 +1,47 @@
+use Rattle.std.proofs.Common.{length}
+use Rattle.pl_check.specs.Elements.{trees}
+use Rattle.pl_check.proofs.CheckingLemmas.{sections_few, problem_refused, parts_ok, checked}
+use Rattle.pl_check.proofs.PlacedLemmas.{forms_few}
+use Rattle.pl_check.proofs.checking.check_forms.Goals as goal
+
+pub collect-requires-clause-domain : goal.collect-requires-clause-domain
+collect-requires-clause-domain c =
+    sections_few (length c.args.domain.now) c.args.domain_forms.now _ c.requires.domain c.requires.in_domain
+    c.sections-domain_sections.ensures
+
+pub collect-requires-clause-problem : goal.collect-requires-clause-problem
+collect-requires-clause-problem c =
+    sections_few (length c.args.problem.now) c.args.problem_forms.now _ c.requires.problem
+    c.requires.in_problem
+    c.sections-problem_sections.ensures
+
+pub read_domain-requires-clause-few : goal.read_domain-requires-clause-few
+read_domain-requires-clause-few c =
+    forms_few (length c.args.domain.now) c.args.domain_forms.now c.requires.domain c.requires.in_domain
+
+pub returns-in-Err-read_problem : goal.returns-in-Err-read_problem
+returns-in-Err-read_problem c =
+    problem_refused c.args.domain.now c.args.problem.now (trees c.args.domain_forms.now)
+    (trees c.args.problem_forms.now) (trees c.sections-domain_sections.result.now)
+    (trees c.sections-problem_sections.result.now) c.in-Ok.known c.in-Err-read_problem.end
+    c.end_in-in-Err-read_problem.result c.sections-domain_sections.ensures c.sections-problem_sections.ensures
+    c.in-Ok.ensures c.end_in-in-Err-read_problem.ensures c.in-Ok-read_domain.ensures.0
+    c.in-Err-read_problem.ensures
+
+pub task_of-requires-clause-parts : goal.task_of-requires-clause-parts
+task_of-requires-clause-parts c =
+    parts_ok c.args.domain.now c.args.problem.now c.args.domain_forms.now c.args.problem_forms.now
+    (trees c.sections-domain_sections.result.now) (trees c.sections-problem_sections.result.now) c.in-Ok.known
+    c.in-Ok-read_domain.schemas.items c.in-Ok-read_problem.stated.init.items
+    c.in-Ok-read_problem.stated.goal.items c.requires.domain c.requires.problem c.requires.in_domain
+    c.requires.in_problem c.sections-domain_sections.ensures c.sections-problem_sections.ensures
+    c.in-Ok.ensures c.in-Ok-read_domain.ensures.0 c.in-Ok-read_problem.ensures.0
+    c.in-Ok-read_domain.ensures.1 c.in-Ok-read_problem.ensures.1.0 c.in-Ok-read_problem.ensures.1.1
+
+pub returns-in-Ok-task_of : goal.returns-in-Ok-task_of
+returns-in-Ok-task_of c =
+    checked c.args.domain.now c.args.problem.now (trees c.args.domain_forms.now)
+    (trees c.args.problem_forms.now) (trees c.sections-domain_sections.result.now)
+    (trees c.sections-problem_sections.result.now) c.in-Ok.known c.in-Ok-task_of.task
+    c.sections-domain_sections.ensures c.sections-problem_sections.ensures c.in-Ok.ensures
+    c.in-Ok-read_domain.ensures.0 c.in-Ok-read_problem.ensures.0 c.in-Ok-task_of.ensures

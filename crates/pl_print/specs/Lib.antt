@@ -1,0 +1,2 @@
+-- what is printed
+pub mod Texts

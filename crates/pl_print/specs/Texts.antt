@@ -1,0 +1,64 @@
+-- The texts that are printed. Each line ends with byte 10, and numbers are decimal without leading zeros.
+use Rattle.std.specs.Prelude.{ℕ, List, [], ◌∷◌, ◌++◌, codes, decimal}
+use Rattle.pl_check.specs.declared.fault.FaultKind.{FaultKind}
+use Rattle.pl_check.specs.declared.fault.FaultKind.TheVariants as kind
+use Rattle.pl_check.specs.declared.role.FileRole.{FileRole}
+use Rattle.pl_check.specs.declared.role.FileRole.TheVariants.{Domain, Problem, Plan}
+use Rattle.pl_valid.specs.declared.verdict.Reason.{Reason}
+use Rattle.pl_valid.specs.declared.verdict.Reason.TheVariants.{UnknownAction, Arguments, UnknownObject, Inapplicable}
+use Rattle.pl_valid.specs.declared.verdict.Verdict.{Verdict}
+use Rattle.pl_valid.specs.declared.verdict.Verdict.TheVariants.{Valid, Invalid, GoalMissed}
+use Rattle.pl_print.specs.declared.fault.Fault.{Fault}
+use Rattle.pl_print.specs.declared.fault.Fault.TheVariants as fault
+
+-- these texts, one after the other
+abbrev pub in_turn : List (List ℕ) → List ℕ
+in_turn [] = []
+in_turn (text ∷ texts) = text ++ in_turn texts
+
+-- how a file is called
+abbrev pub role_text : FileRole → List ℕ
+role_text Domain = codes "domain"
+role_text Problem = codes "problem"
+role_text Plan = codes "plan"
+
+-- why a line of a plan is refused
+abbrev pub reason_text : Reason → List ℕ
+reason_text UnknownAction = codes "unknown-action"
+reason_text Arguments = codes "arguments"
+reason_text UnknownObject = codes "unknown-object"
+reason_text Inapplicable = codes "inapplicable"
+
+-- `valid N`, `invalid K REASON` or `goal missed`
+abbrev pub verdict_text : Verdict → List ℕ
+verdict_text (Valid steps) = codes "valid " ++ decimal steps ++ codes "\n"
+verdict_text (Invalid line reason) = codes "invalid " ++ decimal line ++ codes " " ++ reason_text reason ++ codes "\n"
+verdict_text GoalMissed = codes "goal missed\n"
+
+-- what is wrong at a place of a file
+abbrev pub kind_text : FaultKind → List ℕ
+kind_text kind.BadByte = codes "bad byte"
+kind_text kind.StrayClose = codes "stray bracket"
+kind_text kind.TooDeep = codes "too deep"
+kind_text kind.Unclosed = codes "unclosed bracket"
+kind_text kind.NotOneForm = codes "not one form"
+kind_text kind.BadForm = codes "bad form"
+kind_text kind.Unsupported = codes "unsupported"
+kind_text kind.Duplicate = codes "duplicate"
+kind_text kind.UnknownType = codes "unknown type"
+kind_text kind.UnknownPredicate = codes "unknown predicate"
+kind_text kind.UnknownName = codes "unknown name"
+kind_text kind.WrongArity = codes "wrong arity"
+kind_text kind.TooMany = codes "too many"
+
+-- the line of a fault
+abbrev pub fault_text : Fault → List ℕ
+fault_text fault.Words = codes "powerlift: bad words\n"
+fault_text fault.NotAStep = codes "powerlift: not a step\n"
+fault_text (fault.Input file line column kind) =
+    in_turn (codes "powerlift: " ∷ role_text file ∷ codes ":" ∷ decimal line ∷ codes ":" ∷ decimal column ∷ codes ": " ∷
+    kind_text kind ∷ codes "\n" ∷ [])
+fault_text (fault.TooLong file) = codes "powerlift: " ++ role_text file ++ codes ": too long\n"
+fault_text (fault.Read file) = codes "powerlift: cannot read " ++ role_text file ++ codes "\n"
+fault_text fault.Write = codes "powerlift: cannot write\n"
+fault_text fault.Memory = codes "powerlift: out of memory\n"

@@ -1,4 +1,0 @@
-use Rattle.pl_top.proofs.reporting.put_verdict.Goals as goal
-
-pub returns-in-GoalMissed-clause-front : goal.returns-in-GoalMissed-clause-front
-returns-in-GoalMissed-clause-front g c = rw c.in-GoalMissed.is c.put_pieces-in-GoalMissed.ensures.front
