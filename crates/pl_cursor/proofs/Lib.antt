@@ -19,4 +19,5 @@ mod Stops
 mod Laying
 mod Positions
 mod Starting
+mod Parts
 mod Narrowing

@@ -106,6 +106,7 @@ impl<'r> Cursor<'r> {
         ensures place { result.place ≡ None }
         ensures cost { steps.new ≤ steps.old + 3 * length reduced.now.classes }
         ensures no_cost { ((f : Assignment) → JoinHolds reduced.now f → ⊥) → steps.new ≡ steps.old }
+        ensures rise { steps.old ≤ steps.new }
     {
         let layout = Layout::of(reduced);
         let mut position = Position::new();
@@ -146,6 +147,7 @@ impl<'r> Cursor<'r> {
         ensures first { IfSome result (λ row. slice_get self.old.left 0 ≡ Some row.now) }
         ensures cost { steps.new ≤ steps.old + 2 * length self.old.join.classes }
         ensures no_cost { IfNone result (steps.new ≡ steps.old) }
+        ensures rise { steps.old ≤ steps.new }
     {
         if self.advance(steps) {
             self.place()
@@ -171,6 +173,7 @@ impl<'r> Cursor<'r> {
         ensures step { StepsOn self.old result self.new }
         ensures cost { steps.new ≤ steps.old + 2 * length self.old.join.classes }
         ensures no_cost { OnFalse result (steps.new ≡ steps.old) }
+        ensures rise { steps.old ≤ steps.new }
     {
         if self.ready {
             self.ready = false;

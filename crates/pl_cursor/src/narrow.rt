@@ -39,6 +39,7 @@ pub fn narrow<L: Ledger>(
     requires onward { NeverEnds (stages_of reduced.now) [] }
     ensures narrowed { IsNarrowed (stages_of reduced.now) (length reduced.now.classes) frames.new answer.now result }
     ensures cost { steps.new ≤ steps.old + 3 * layout.now.count }
+    ensures rise { steps.old ≤ steps.new }
 {
     for t in 0..layout.count {
         let place = place_of(reduced, layout, t, answer, steps);
@@ -79,6 +80,7 @@ fn place_of<L: Ledger>(
         IsTrue (list_any (begins_with (key_of stage.keys (take stage.from answer.now))) stage.rows) }
     ensures place { IsPlaced (stages_of reduced.now) (length reduced.now.classes) t answer.now result }
     ensures cost { steps.new ≤ steps.old + 3 }
+    ensures rise { steps.old ≤ steps.new }
 {
     let mut tuple = [0; MOST_CLASSES];
     let range = look_up(reduced, layout, t, &mut tuple, answer, steps);
@@ -135,6 +137,7 @@ fn has_at<L: Ledger>(table: &Table, row: &[u32], at: usize, to: usize, steps: &m
     ensures yes { OnTrue result ((at < to) × (slice_get table.now.rows at ≡ Some row.now)) }
     ensures no { OnFalse result ((other : List ℕ) → at < to → slice_get table.now.rows at ≡ Some other → other ≡ row.now → ⊥) }
     ensures cost { steps.new ≤ steps.old + 1 }
+    ensures rise { steps.old ≤ steps.new }
 {
     if at >= to {
         return false;

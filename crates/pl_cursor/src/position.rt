@@ -61,6 +61,7 @@ pub fn go_on<L: Ledger>(
     ensures same { OnFalse result (position.new ≡ position.old) }
     ensures cost { OnTrue result (steps.new ≤ steps.old + 2 * length reduced.now.classes) }
     ensures no_cost { OnFalse result (steps.new ≡ steps.old) }
+    ensures rise { steps.old ≤ steps.new }
 {
     let depth = open_depth(&position.frames, position.depth);
     if depth == 0 {

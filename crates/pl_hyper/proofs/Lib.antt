@@ -3,6 +3,7 @@ pub mod Removals
 -- for the crates above: lists of numbers as sets, first appearances, and the classes of edges as lists
 pub mod Members
 pub mod Orders
+pub mod Rising
 -- sets of classes as bits
 mod Bits
 -- trees and ears: how an ear is taken out of a tree and put back, and a join tree exactly where one edge stays

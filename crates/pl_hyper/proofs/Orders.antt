@@ -163,7 +163,7 @@ pub classes_contain : (edge class : ℕ) → class < 64 → bit_at edge class �
 unfolding classes_of
 classes_contain edge class h b = classes_below_contain 64 edge class h b
 
-classes_rise : (edge : ℕ) → AllPairs (λ a b. a < b) (classes_of edge)
+pub classes_rise : (edge : ℕ) → AllPairs (λ a b. a < b) (classes_of edge)
 unfolding classes_of
 classes_rise edge = classes_below_rise 64 edge
 

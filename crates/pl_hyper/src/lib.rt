@@ -7,6 +7,7 @@
 #![tactic(auto)]
 
 mod ear;
+pub mod laws;
 mod order;
 mod plan;
 mod removal;

@@ -8,3 +8,6 @@ pub mod Gathering
 pub mod Joining
 pub mod Selecting
 pub mod Repeats
+mod Founds
+mod Empties
+mod Keys

@@ -37,6 +37,12 @@ kept_more p arity count i rows flat row at whole wide passes so_far =
     let step : filter p (take (i + 1) rows) ≡ filter p (take i rows) ++ row ∷ [] = filter_more p rows i row within ∙ rw (here, passes) refl in
     rows_of-push arity count flat row whole wide ∙ ap (λ r. r ++ row ∷ []) so_far ∙ sym step
 
+pub row_kept : (p : List ℕ → Bool) (i : ℕ) (rows before : List (List ℕ)) (row : List ℕ) → slice_get rows i ≡ Some row → p row ≡ true → before ≡ filter p (take i rows) → before ++ row ∷ [] ≡ filter p (take (i + 1) rows)
+row_kept p i rows before row at passes so_far =
+    let within : i < length rows = slice_get_within rows i row at in
+    let here : get_or rows i row ≡ row = get_or_from_slice_get rows i row row at in
+    ap (λ r. r ++ row ∷ []) so_far ∙ sym (filter_more p rows i row within ∙ rw (here, passes) refl)
+
 -- the row at i doesn't pass, and nothing is pushed
 pub left_out : (p : List ℕ → Bool) (i : ℕ) (rows : List (List ℕ)) (row : List ℕ) → slice_get rows i ≡ Some row → p row ≡ false → filter p (take (i + 1) rows) ≡ filter p (take i rows)
 left_out p i rows row at fails =

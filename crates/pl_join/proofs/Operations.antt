@@ -9,7 +9,7 @@ use Rattle.std.proofs.lemmas.List.Elements.{All-map, All-weaker, Contains-get_or
 use Rattle.std.proofs.lemmas.Slice.Eq.{bytes_eq-Decides}
 use Rattle.pl_join.specs.declared.slot.Slot.TheVariants.{Class}
 use Rattle.pl_join.specs.Relation.{IsSelectionOf, IsSlotOver, IsJoinOf, IsSemijoinOf, AgreeOnShared, has_class, ClassRows, Assignment, IsRelation, Holds, Agree, IsProjectionOf, AreUnequalOf, AreAbsentOf, slot_value}
-use Rattle.pl_join.specs.Source.{fits_slots, is_wanted, classes_by, value_at, picked, looked_at, differ, is_kept}
+use Rattle.pl_join.specs.Source.{of_rows, fits_slots, is_wanted, classes_by, value_at, picked, looked_at, differ, is_kept}
 use Rattle.pl_join.proofs.Assignments.{value_of, map_agree, agree_map, row_held}
 use Rattle.pl_join.proofs.Loops.{same_rows}
 use Rattle.pl_join.proofs.Members.{Contains-map, Contains-from_map, Contains-filter, Contains-from_filter, has_row-Contains, has_class-Contains}
@@ -130,16 +130,17 @@ restricted_to keep by rows sources values same f =
     )
 
 -- the same of what the calls give, where a row is left out and where none is
-pub reduced_made : (keep by result : ClassRows) (classes wanted items : List ℕ) (table other made : Rows) (slots given_slots : List Slot) (sources given : List Source) → classes ≡ keep.classes → wanted ≡ by.classes → slots ≡ map Class wanted → given_slots ≡ slots → table ≡ record { arity = length keep.classes; rows = keep.rows } → other ≡ record { arity = length by.classes; rows = by.rows } → ((f : Assignment) → looked_at sources (map f classes) ≡ map (slot_value f) given_slots) → given ≡ sources → made.rows ≡ filter (is_kept true other.rows given) table.rows → items ≡ classes → result ≡ record { classes = items; rows = made.rows } → IsJoinOf keep by result
-reduced_made keep by result classes wanted items table other made slots given_slots sources given ec ew es egs et eo values eg same ei er =
-    rw (er, ei, ec) (restricted_to keep by made.rows sources
-    (λ f. ap (λ held. looked_at sources (map f held)) (sym ec) ∙ values f ∙ ap (map (slot_value f)) (egs ∙ es) ∙ slots_values wanted f ∙ ap (map f) ew)
-    (same_rows _ _ (rw (eg, eo, et) at same)))
+pub found_made : (classes wanted items : List ℕ) (rows keys : List (List ℕ)) (result : ClassRows) (made : Rows) (slots given_slots : List Slot) (sources given : List Source) → slots ≡ map Class wanted → given_slots ≡ slots → ((f : Assignment) → looked_at sources (map f classes) ≡ map (slot_value f) given_slots) → given ≡ sources → made.rows ≡ filter (is_kept true keys given) rows → items ≡ classes → result ≡ record { classes = items; rows = made.rows } → IsJoinOf (of_rows classes rows) (of_rows wanted keys) result
+found_made classes wanted items rows keys result made slots given_slots sources given es egs values eg same ei er =
+    rw (er, ei) (restricted_to (of_rows classes rows) (of_rows wanted keys) made.rows sources
+    (λ f. values f ∙ ap (map (slot_value f)) (egs ∙ es) ∙ slots_values wanted f)
+    (same_rows _ _ (rw eg at same)))
 
-pub kept_whole : (keep by : ClassRows) (classes wanted : List ℕ) (table other : Rows) (slots given_slots : List Slot) (sources given : List Source) → classes ≡ keep.classes → wanted ≡ by.classes → slots ≡ map Class wanted → given_slots ≡ slots → table ≡ record { arity = length keep.classes; rows = keep.rows } → other ≡ record { arity = length by.classes; rows = by.rows } → ((f : Assignment) → looked_at sources (map f classes) ≡ map (slot_value f) given_slots) → given ≡ sources → filter (is_kept true other.rows given) table.rows ≡ table.rows → IsJoinOf keep by keep
-kept_whole keep by classes wanted table other slots given_slots sources given ec ew es egs et eo values eg same =
-    reduced_made keep by keep classes wanted classes table other table slots given_slots sources given ec ew es egs et eo values eg (sym same) refl
-    (rw (ec, et) refl)
+pub found_whole : (classes wanted : List ℕ) (rows keys : List (List ℕ)) (slots given_slots : List Slot) (sources given : List Source) → slots ≡ map Class wanted → given_slots ≡ slots → ((f : Assignment) → looked_at sources (map f classes) ≡ map (slot_value f) given_slots) → given ≡ sources → filter (is_kept true keys given) rows ≡ rows → IsJoinOf (of_rows classes rows) (of_rows wanted keys) (of_rows classes rows)
+found_whole classes wanted rows keys slots given_slots sources given es egs values eg same =
+    restricted_to (of_rows classes rows) (of_rows wanted keys) rows sources
+    (λ f. values f ∙ ap (map (slot_value f)) (egs ∙ es) ∙ slots_values wanted f)
+    (same_rows _ _ (sym same ∙ ap (λ s. filter (is_kept true keys s) rows) eg))
 
 -- what is shared stands in both
 pub Contains-shared : (classes others : List ℕ) (c : ℕ) → Contains (classes_by true classes others) c ↔ (Contains classes c × Contains others c)
@@ -149,26 +150,21 @@ Contains-shared classes others c = (
 )
 
 -- the join with a projection onto the shared classes is the semijoin
-pub semijoined_by : (keep by projected kept : ClassRows) → projected.classes ≡ classes_by true by.classes keep.classes → IsProjectionOf by projected → IsJoinOf keep projected kept → IsSemijoinOf keep by kept
-semijoined_by keep by projected kept e projects joins f = (forth, back)
+pub semijoined_on : (keep by projected kept : ClassRows) → ((c : ℕ) → Contains projected.classes c ↔ (Contains by.classes c × Contains keep.classes c)) → IsProjectionOf by projected → IsJoinOf keep projected kept → IsSemijoinOf keep by kept
+semijoined_on keep by projected kept shared projects joins f = (forth, back)
   where
     forth : Holds kept f → Holds keep f × ((g : Assignment) × Holds by g × AgreeOnShared keep by f g)
     forth h =
         let (held, part) = (joins f).0 h in
         let (g, in_by, agree) = (projects f).0 part in
-        (held, (g, in_by, λ c k b. agree c (subst (λ classes. Contains classes c) (sym e) ((Contains-shared by.classes keep.classes c).1 (b, k)))))
+        (held, (g, in_by, λ c k b. agree c ((shared c).1 (b, k))))
 
     back : Holds keep f × ((g : Assignment) × Holds by g × AgreeOnShared keep by f g) → Holds kept f
-    back (held, (g, in_by, agree)) =
-        (joins f).1 (
-          held,
-          (projects f).1 (
-            g,
-            in_by,
-            λ c m.
-                (let (b, k) = (Contains-shared by.classes keep.classes c).0 (subst (λ classes. Contains classes c) e m) in agree c k b),
-          ),
-        )
+    back (held, (g, in_by, agree)) = (joins f).1 (held, (projects f).1 (g, in_by, λ c m. (let (b, k) = (shared c).0 m in agree c k b)))
+
+pub semijoined_by : (keep by projected kept : ClassRows) → projected.classes ≡ classes_by true by.classes keep.classes → IsProjectionOf by projected → IsJoinOf keep projected kept → IsSemijoinOf keep by kept
+semijoined_by keep by projected kept e projects joins =
+    semijoined_on keep by projected kept (λ c. subst (λ cs. Contains cs c ↔ (Contains by.classes c × Contains keep.classes c)) (sym e) (Contains-shared by.classes keep.classes c)) projects joins
 
 -- a relation is its projection onto all its classes
 pub whole_projection : (by : ClassRows) → IsProjectionOf by by

@@ -5,7 +5,7 @@ use Rattle.std.specs.Str.{bytes_eq}
 use Rattle.pl_rows.specs.Rows.{Rows, AreRows, begins_with}
 use Rattle.pl_join.specs.declared.slot.Slot.{Slot}
 use Rattle.pl_join.specs.declared.slot.Slot.TheVariants.{Class}
-use Rattle.pl_join.specs.Relation.{Assignment, AreDistinct, slot_value, has_class}
+use Rattle.pl_join.specs.Relation.{ClassRows, Assignment, AreDistinct, slot_value, has_class}
 use Rattle.pl_join.specs.declared.source.Source.{Source}
 use Rattle.pl_join.specs.declared.source.Source.TheVariants.{Fixed, Column}
 use Rattle.pl_join.specs.declared.selection.Test.{Test}
@@ -63,6 +63,10 @@ passes_all tests row = list_all (passes row) tests
 pub record IsTestOf (arity : ℕ) (test : Test) : Type 0 where
   pub column : test.column < arity
   pub source : IsWithin arity test.source
+
+-- the relation of some classes and rows
+abbrev pub of_rows : List ℕ → List (List ℕ) → ClassRows
+of_rows classes rows = record { classes = classes; rows = rows }
 
 -- what the fields of a relation keep: distinct classes below 64, and a table with one column for each of them
 pub record IsKept (classes : List ℕ) (table : Rows) : Type 0 where

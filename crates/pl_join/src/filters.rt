@@ -3,12 +3,14 @@
 ghost use Rattle.std.specs.Prelude.{◌≡◌, ◌+◌, ◌*◌, ◌<◌, ◌≤◌, ◌^◌, ℕ, Bool, length, take, min, map, filter, All, Contains, IfOk, IfSome, IfNone, OnOk};
 ghost use Rattle.pl_rows.specs.Rows.{AreRows, SameRows, rows_of};
 ghost use Rattle.pl_join.specs.Relation.{IsSlotOver, AreUnequalOf, AreAbsentOf};
+ghost use Rattle.pl_join.specs.Lookup.{keys_of, key_width};
 ghost use Rattle.pl_join.specs.Source.{IsWithin, differ, is_wanted, is_kept};
 
+use crate::lookup::{Lookup, is_there};
 use crate::relation::Relation;
 use crate::slot::Slot;
 use crate::source::{Source, append, look_at, source_of, sources_of, value_in};
-use pl_rows::Table;
+use pl_rows::{Table, TableBuilder};
 use pl_steps::Steps;
 use std::alloc::{AllocError, Global};
 use std::sync::ledger::Ledger;
@@ -28,6 +30,7 @@ pub fn filter_unequal<L: Ledger>(
     ensures classes { IfOk result (λ r. r.classes ≡ relation.now.classes) }
     ensures rows { IfOk result (AreUnequalOf relation.now a b) }
     ensures cost { steps.new ≤ steps.old + length relation.now.rows }
+    ensures rise { steps.old ≤ steps.new }
 {
     let classes = relation.classes();
     let first = source_of(classes, a);
@@ -51,10 +54,18 @@ pub fn filter_absent<L: Ledger>(
     ensures classes { IfOk result (λ r. r.classes ≡ relation.now.classes) }
     ensures rows { IfOk result (AreAbsentOf relation.now table.now.rows slots.now) }
     ensures cost { steps.new ≤ steps.old + 2 * length relation.now.rows }
+    ensures rise { steps.old ≤ steps.new }
 {
     let classes = relation.classes();
     let sources = sources_of(alloc, classes, slots)?;
-    let kept = kept_rows(alloc, relation.table(), table, &sources, false, steps)?;
+    let kept = kept_rows(
+        alloc,
+        relation.table(),
+        Lookup::Rows(table),
+        &sources,
+        false,
+        steps,
+    )?;
     Ok(Relation::new(Vec::from_slice(alloc, classes)?, kept))
 }
 
@@ -72,6 +83,7 @@ fn unequal_rows<L: Ledger>(
     ensures rows { IfOk result (λ t. AreRows table.now.arity t.rows) }
     ensures same { IfOk result (λ t. SameRows t.rows (filter (differ a b) table.now.rows)) }
     ensures cost { steps.new ≤ steps.old + length table.now.rows }
+    ensures rise { steps.old ≤ steps.new }
 {
     let mut flat = Vec::new(alloc);
     let mut count = 0;
@@ -85,21 +97,22 @@ fn unequal_rows<L: Ledger>(
     Table::from_rows(alloc, table.arity(), count, flat)
 }
 
-/// The rows in which the values of the sources are a row of the other table, or with `wanted` false are none.
+/// The rows in which the values of the sources are a row of the lookup, or with `wanted` false are none.
 fn kept_rows<L: Ledger>(
     alloc: Global,
     table: &Table,
-    other: &Table,
+    other: Lookup<'_>,
     sources: &[Source],
     wanted: bool,
     steps: &mut Steps<L>,
 ) -> Result<Table, AllocError>
     requires within { All (IsWithin table.now.arity) sources.now }
-    requires arity { length sources.now ≡ other.now.arity }
+    requires arity { length sources.now ≡ key_width other }
     ensures arity { IfOk result (λ t. t.arity ≡ table.now.arity) }
     ensures rows { IfOk result (λ t. AreRows table.now.arity t.rows) }
-    ensures kept { IfOk result (λ t. t.rows ≡ filter (is_kept wanted other.now.rows sources.now) table.now.rows) }
+    ensures kept { IfOk result (λ t. t.rows ≡ filter (is_kept wanted (keys_of other.entry) sources.now) table.now.rows) }
     ensures cost { steps.new ≤ steps.old + 2 * length table.now.rows }
+    ensures rise { steps.old ≤ steps.new }
 {
     match fewer_rows(alloc, table, other, sources, wanted, steps)? {
         Some(kept) => Ok(kept),
@@ -113,19 +126,20 @@ fn kept_rows<L: Ledger>(
 pub fn fewer_rows<L: Ledger>(
     alloc: Global,
     table: &Table,
-    other: &Table,
+    other: Lookup<'_>,
     sources: &[Source],
     wanted: bool,
     steps: &mut Steps<L>,
 ) -> Result<Option<Table>, AllocError>
     requires within { All (IsWithin table.now.arity) sources.now }
-    requires arity { length sources.now ≡ other.now.arity }
-    ensures all { IfOk result (λ r. IfNone r (filter (is_kept wanted other.now.rows sources.now) table.now.rows ≡ table.now.rows)) }
+    requires arity { length sources.now ≡ key_width other }
+    ensures all { IfOk result (λ r. IfNone r (filter (is_kept wanted (keys_of other.entry) sources.now) table.now.rows ≡ table.now.rows)) }
     ensures arity { IfOk result (λ r. IfSome r (λ t. t.arity ≡ table.now.arity)) }
     ensures rows { IfOk result (λ r. IfSome r (λ t. AreRows table.now.arity t.rows)) }
-    ensures kept { IfOk result (λ r. IfSome r (λ t. t.rows ≡ filter (is_kept wanted other.now.rows sources.now) table.now.rows)) }
+    ensures kept { IfOk result (λ r. IfSome r (λ t. t.rows ≡ filter (is_kept wanted (keys_of other.entry) sources.now) table.now.rows)) }
     ensures fewer { IfOk result (λ r. IfSome r (λ t. length t.rows < length table.now.rows)) }
     ensures cost { steps.new ≤ steps.old + 2 * length table.now.rows }
+    ensures rise { steps.old ≤ steps.new }
 {
     let mut values = vec![in alloc; 0; sources.len()]?;
     let values = values.as_mut_slice();
@@ -133,32 +147,30 @@ pub fn fewer_rows<L: Ledger>(
     if first == table.len() {
         return Ok(None);
     }
-    let mut flat = table.first_rows(alloc, first)?;
-    let mut count = first;
+    let mut kept = TableBuilder::front_of(alloc, table, first)?;
     for i in first + 1..table.len() {
         let row = table.row(i, steps);
         if keeps(row, other, sources, wanted, values, steps) {
-            append(&mut flat, row)?;
-            count += 1;
+            kept.push(row)?;
         }
     }
-    Ok(Some(Table::from_ascending(table.arity(), count, flat)))
+    Ok(Some(kept.into_ascending()))
 }
 
 /// The place of the first row that is not kept, or how many rows there are.
 fn first_left_out<L: Ledger>(
     table: &Table,
-    other: &Table,
+    other: Lookup<'_>,
     sources: &[Source],
     wanted: bool,
     values: &mut [u32],
     steps: &mut Steps<L>,
 ) -> usize
     requires within { All (IsWithin table.now.arity) sources.now }
-    requires arity { length sources.now ≡ other.now.arity }
+    requires arity { length sources.now ≡ key_width other }
     requires values { length values.old ≡ length sources.now }
     ensures within { result ≤ length table.now.rows }
-    ensures kept { filter (is_kept wanted other.now.rows sources.now) (take (result + 1) table.now.rows) ≡ take result table.now.rows }
+    ensures kept { filter (is_kept wanted (keys_of other.entry) sources.now) (take (result + 1) table.now.rows) ≡ take result table.now.rows }
     ensures cost { steps.new ≡ steps.old + 2 * min (result + 1) (length table.now.rows) }
 {
     for i in 0..table.len() {
@@ -174,20 +186,20 @@ fn first_left_out<L: Ledger>(
 #[inline]
 fn keeps<L: Ledger>(
     row: &[u32],
-    other: &Table,
+    other: Lookup<'_>,
     sources: &[Source],
     wanted: bool,
     values: &mut [u32],
     steps: &mut Steps<L>,
 ) -> bool
     requires within { All (IsWithin (length row.now)) sources.now }
-    requires arity { length sources.now ≡ other.now.arity }
+    requires arity { length sources.now ≡ key_width other }
     requires values { length values.old ≡ length sources.now }
-    ensures kept { result ≡ is_kept wanted other.now.rows sources.now row.now }
+    ensures kept { result ≡ is_kept wanted (keys_of other.entry) sources.now row.now }
     ensures cost { steps.new ≡ steps.old + 1 }
 {
     look_at(values, row, sources);
-    is_as_wanted(wanted, other.has(values, steps))
+    is_as_wanted(wanted, is_there(other, values, steps))
 }
 
 /// Whether what was found is what was wanted.

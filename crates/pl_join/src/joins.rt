@@ -28,6 +28,7 @@ pub fn hash_join<L: Ledger>(
 ) -> Result<Relation, AllocError>
     ensures classes { IfOk result (λ r. r.classes ≡ left.now.classes ++ without right.now.classes left.now.classes) }
     ensures rows { IfOk result (IsJoinOf left.now right.now) }
+    ensures rise { steps.old ≤ steps.new }
 {
     let classes = left.classes();
     let others = right.classes();
@@ -59,6 +60,7 @@ fn indexed<L: Ledger>(
     ensures are_rows { IfOk result (λ x. AreRows (length shared.now + length rest.now) x.table.rows) }
     ensures rows { IfOk result (λ x. IsProjectionOf relation.now
         (record { classes = shared.now ++ rest.now; rows = x.table.rows })) }
+    ensures rise { steps.old ≤ steps.new }
 {
     let order = appended(alloc, shared, rest)?;
     let arranged = project(alloc, relation, &order, steps)?;
@@ -67,7 +69,7 @@ fn indexed<L: Ledger>(
 }
 
 /// The one list, and behind it the other.
-fn appended(alloc: Global, classes: &[u32], others: &[u32]) -> Result<Vec<u32>, AllocError>
+pub fn appended(alloc: Global, classes: &[u32], others: &[u32]) -> Result<Vec<u32>, AllocError>
     ensures { IfOk result (λ all. all.items ≡ classes.now ++ others.now) }
 {
     let mut all = Vec::from_slice(alloc, classes)?;
@@ -92,6 +94,7 @@ fn joined_rows<L: Ledger>(
     ensures rows { IfOk result (λ t. AreRows (left.now.arity + (index.now.table.arity - index.now.width)) t.rows) }
     ensures same { IfOk result (λ t. SameRows t.rows
         (flat_map (joined_with index.now.table.rows columns.now) left.now.rows)) }
+    ensures rise { steps.old ≤ steps.new }
 {
     let table = index.table();
     let arity = left.arity() + (table.arity() - index.width());
@@ -120,8 +123,9 @@ fn append_matches<L: Ledger>(
     requires in_order { range.from ≤ range.to }
     requires within { range.to ≤ length table.now.rows }
     requires width { width ≤ table.now.arity }
-    ensures { OnOk result (flat.new.items
+    ensures matches { OnOk result (flat.new.items
         ≡ flat.old.items ++ concat (map (glued width row.now) (slice_range table.now.rows range.from range.to))) }
+    ensures rise { steps.old ≤ steps.new }
 {
     for place in range.from..range.to {
         append(flat, row)?;

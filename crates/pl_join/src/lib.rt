@@ -5,8 +5,11 @@
 #![tactic(auto)]
 
 mod filters;
+mod found;
 mod joins;
+mod keyed;
 pub mod laws;
+mod lookup;
 mod projection;
 mod relation;
 mod selection;
@@ -18,6 +21,7 @@ mod tests;
 
 pub use filters::{filter_absent, filter_unequal};
 pub use joins::hash_join;
+pub use keyed::{Keyed, reduction_by_keyed, reduction_of_keyed};
 pub use projection::project;
 pub use relation::Relation;
 pub use selection::select;

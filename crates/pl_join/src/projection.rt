@@ -28,6 +28,7 @@ pub fn project<L: Ledger>(
     ensures rows { IfOk result (IsProjectionOf relation.now) }
     ensures most { IfOk result (λ r. length r.rows ≤ length relation.now.rows) }
     ensures cost { steps.new ≤ steps.old + length relation.now.rows }
+    ensures rise { steps.old ≤ steps.new }
 {
     let held = relation.classes();
     if held == classes {
@@ -52,6 +53,7 @@ pub fn picked_rows<L: Ledger>(
     ensures same { IfOk result (λ t. SameRows t.rows (map (picked columns.now) table.now.rows)) }
     ensures most { IfOk result (λ t. length t.rows ≤ length table.now.rows) }
     ensures cost { steps.new ≤ steps.old + length table.now.rows }
+    ensures rise { steps.old ≤ steps.new }
 {
     let mut flat = Vec::new(alloc);
     let mut count = 0;

@@ -1,6 +1,6 @@
 //! A relation: what callers read.
 
-ghost use Rattle.std.specs.Prelude.{◌≡◌, ◌<◌, length, All, IfOk};
+ghost use Rattle.std.specs.Prelude.{◌≡◌, ◌<◌, [], length, All, IfOk};
 ghost use Rattle.pl_rows.specs.Rows.{AreRows};
 ghost use Rattle.pl_join.specs.Relation.{AreDistinct, IsRelation};
 
@@ -63,6 +63,15 @@ impl Relation {
     {
         let classes = Vec::from_slice(alloc, &self.classes)?;
         let table = self.table.copied(alloc)?;
+        Ok(Relation { classes, table })
+    }
+
+    /// The relation over the same classes that has no row. It takes no probe. The only error is want of memory.
+    pub fn emptied(&self, alloc: Global) -> Result<Relation, AllocError>
+        ensures { IfOk result (λ r. r ≡ record { classes = self.now.classes; rows = [] }) }
+    {
+        let classes = Vec::from_slice(alloc, &self.classes)?;
+        let table = Table::from_ascending(self.table.arity(), 0, Vec::new(alloc));
         Ok(Relation { classes, table })
     }
 

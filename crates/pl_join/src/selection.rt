@@ -32,6 +32,7 @@ pub fn select<L: Ledger>(
     ensures classes { IfOk result (λ r. AreClassesOf slots.now r.classes) }
     ensures rows { IfOk result (IsSelectionOf table.now.rows slots.now) }
     ensures cost { steps.new ≤ steps.old + length table.now.rows }
+    ensures rise { steps.old ≤ steps.new }
 {
     let (classes, columns) = classes_of(alloc, slots)?;
     let sources = sources_of(alloc, &classes, slots)?;
@@ -114,6 +115,7 @@ fn fitting_rows<L: Ledger>(
     ensures same { IfOk result (λ t. SameRows t.rows
         (map (picked columns.now) (filter (fits_slots sources.now columns.now) table.now.rows))) }
     ensures cost { steps.new ≤ steps.old + length table.now.rows }
+    ensures rise { steps.old ≤ steps.new }
 {
     let tests = tests_of(alloc, columns, sources)?;
     if tests.is_empty() && are_all(columns, table.arity() as usize) {
@@ -201,6 +203,7 @@ fn passing_rows<L: Ledger>(
         (map (picked columns.now) (filter (passes_all tests.now) table.now.rows))) }
     ensures table { AreRows table.now.arity table.now.rows }
     ensures cost { steps.new ≤ steps.old + length table.now.rows }
+    ensures rise { steps.old ≤ steps.new }
 {
     let len = table.len();
     let mut flat = Vec::new(alloc);

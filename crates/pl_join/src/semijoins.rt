@@ -1,14 +1,17 @@
 //! The semijoin of two relations.
 
-ghost use Rattle.std.specs.Prelude.{◌≡◌, ◌+◌, ◌*◌, ◌<◌, ◌≤◌, ◌^◌, ℕ, length, map, filter, All, Contains, IfOk, IfSome, IfNone};
-ghost use Rattle.pl_join.specs.Relation.{IsJoinOf, IsSemijoinOf, has_class};
-ghost use Rattle.pl_join.specs.Source.{classes_by};
+ghost use Rattle.std.specs.Prelude.{◌≡◌, ◌⊎◌, [], ◌+◌, ◌*◌, ◌<◌, ◌≤◌, ◌^◌, ℕ, length, map, filter, All, Contains, IfOk, IfSome, IfNone};
+ghost use Rattle.pl_join.specs.Relation.{IsRelation, IsJoinOf, IsSemijoinOf, has_class};
+ghost use Rattle.pl_join.specs.Lookup.{keys_of, key_width};
+ghost use Rattle.pl_join.specs.Source.{classes_by, of_rows};
 
 use crate::filters::{fewer_rows, is_as_wanted};
+use crate::lookup::Lookup;
 use crate::projection::project;
 use crate::relation::Relation;
 use crate::slot::Slot;
 use crate::source::sources_of;
+use pl_rows::Table;
 use pl_steps::Steps;
 use std::alloc::{AllocError, Global};
 use std::sync::ledger::Ledger;
@@ -26,6 +29,7 @@ pub fn semijoin<L: Ledger>(
     ensures classes { IfOk result (λ r. r.classes ≡ keep.now.classes) }
     ensures rows { IfOk result (IsSemijoinOf keep.now by.now) }
     ensures cost { steps.new ≤ steps.old + 2 * length keep.now.rows + length by.now.rows }
+    ensures rise { steps.old ≤ steps.new }
 {
     match reduction(alloc, keep, by, steps)? {
         Some(kept) => Ok(kept),
@@ -36,8 +40,9 @@ pub fn semijoin<L: Ledger>(
 /// The semijoin of `keep` by `by`, where it has fewer rows than `keep`; None where it has every row of `keep`, which is
 /// then not copied.
 ///
-/// It takes at most two probes per row of `keep` and one per row of `by`. The rows that are kept are not sorted. Those of
-/// `by` are projected onto the shared classes first, unless these are all that it has.
+/// It takes at most two probes per row of `keep` and one per row of `by`, and none where one of the two has no row, or where
+/// they share no class. The rows that are kept are not sorted. Those of `by` are projected onto the shared classes first,
+/// unless these are all that it has.
 pub fn reduction<L: Ledger>(
     alloc: Global,
     keep: &Relation,
@@ -49,10 +54,22 @@ pub fn reduction<L: Ledger>(
     ensures rows { IfOk result (λ r. IfSome r (IsSemijoinOf keep.now by.now)) }
     ensures fewer { IfOk result (λ r. IfSome r (λ kept. length kept.rows < length keep.now.rows)) }
     ensures cost { steps.new ≤ steps.old + 2 * length keep.now.rows + length by.now.rows }
+    ensures empty { (keep.now.rows ≡ []) ⊎ (by.now.rows ≡ []) → steps.new ≡ steps.old }
+    ensures apart { ((c : ℕ) → Contains by.now.classes c → Contains keep.now.classes c → ⊥) → steps.new ≡ steps.old }
+    ensures rise { steps.old ≤ steps.new }
 {
+    if keep.table().is_empty() {
+        return Ok(None);
+    }
+    if by.table().is_empty() {
+        return Ok(Some(keep.emptied(alloc)?));
+    }
     let classes = by.classes();
     let shared = chosen_classes(alloc, classes, keep.classes(), true)?;
     let shared = shared.as_slice();
+    if shared.is_empty() {
+        return Ok(None);
+    }
     if shared == classes {
         return reduced(alloc, keep, by, steps);
     }
@@ -73,6 +90,7 @@ pub fn restricted<L: Ledger>(
     ensures classes { IfOk result (λ r. r.classes ≡ keep.now.classes) }
     ensures rows { IfOk result (IsJoinOf keep.now by.now) }
     ensures cost { steps.new ≤ steps.old + 2 * length keep.now.rows }
+    ensures rise { steps.old ≤ steps.new }
 {
     match reduced(alloc, keep, by, steps)? {
         Some(kept) => Ok(kept),
@@ -93,13 +111,41 @@ fn reduced<L: Ledger>(
     ensures rows { IfOk result (λ r. IfSome r (IsJoinOf keep.now by.now)) }
     ensures fewer { IfOk result (λ r. IfSome r (λ kept. length kept.rows < length keep.now.rows)) }
     ensures cost { steps.new ≤ steps.old + 2 * length keep.now.rows }
+    ensures rise { steps.old ≤ steps.new }
 {
-    let classes = keep.classes();
+    let other = Lookup::Rows(by.table());
     let wanted = by.classes();
+    looked_up(alloc, keep.classes(), keep.table(), wanted, other, steps)
+}
+
+/// The rows of a table over some classes whose values of the wanted classes are found, where some are not; None where all
+/// are.
+///
+/// It takes at most two probes per row.
+pub fn looked_up<L: Ledger>(
+    alloc: Global,
+    classes: &[u32],
+    table: &Table,
+    wanted: &[u32],
+    other: Lookup<'_>,
+    steps: &mut Steps<L>,
+) -> Result<Option<Relation>, AllocError>
+    requires relation { IsRelation (of_rows classes.now table.now.rows) }
+    requires arity { table.now.arity ≡ length classes.now }
+    requires held { All (Contains classes.now) wanted.now }
+    requires width { key_width other ≡ length wanted.now }
+    ensures same { let keep = of_rows classes.now table.now.rows in
+        IfOk result (λ r. IfNone r (IsJoinOf keep (of_rows wanted.now (keys_of other.entry)) keep)) }
+    ensures classes { IfOk result (λ r. IfSome r (λ kept. kept.classes ≡ classes.now)) }
+    ensures rows { let keep = of_rows classes.now table.now.rows in
+        IfOk result (λ r. IfSome r (IsJoinOf keep (of_rows wanted.now (keys_of other.entry)))) }
+    ensures fewer { IfOk result (λ r. IfSome r (λ kept. length kept.rows < length table.now.rows)) }
+    ensures cost { steps.new ≤ steps.old + 2 * length table.now.rows }
+    ensures rise { steps.old ≤ steps.new }
+{
     let slots = slots_of(alloc, wanted)?;
     let sources = sources_of(alloc, classes, &slots)?;
-    let other = by.table();
-    match fewer_rows(alloc, keep.table(), other, &sources, true, steps)? {
+    match fewer_rows(alloc, table, other, &sources, true, steps)? {
         Some(kept) => Ok(Some(Relation::new(Vec::from_slice(alloc, classes)?, kept))),
         None => Ok(None),
     }

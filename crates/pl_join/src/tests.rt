@@ -5,8 +5,8 @@ ghost use Rattle.pl_join.specs.Relation.{AreDistinct, IsSlotOver, IsSlotBelow};
 
 use crate::semijoins::has;
 use crate::{
-    Relation, Slot, filter_absent, filter_unequal, hash_join, laws, project, reduction, select,
-    semijoin,
+    Keyed, Relation, Slot, filter_absent, filter_unequal, hash_join, laws, project, reduction,
+    reduction_by_keyed, reduction_of_keyed, select, semijoin,
 };
 use Slot::{Class, Fixed};
 use pl_rows::Table;
@@ -34,6 +34,10 @@ enum Call {
     Semijoin(Rows, &'static [Slot]),
     Reduction(Rows, &'static [Slot]),
     NoReduction(Rows, &'static [Slot]),
+    ByKeyed(Rows, &'static [Slot], &'static [u32]),
+    NotByKeyed(Rows, &'static [Slot], &'static [u32]),
+    OfKeyed(&'static [u32], Rows, &'static [Slot]),
+    NotOfKeyed(&'static [u32], Rows, &'static [Slot]),
     Join(Rows, &'static [Slot]),
 }
 
@@ -224,6 +228,50 @@ const CASES: &[Case] = &[
         classes: &[1, 4],
         rows: &[&[0, 1], &[1, 0]],
     },
+    // looked up by a key: a row is dropped, and none is
+    Case {
+        from: EDGES,
+        slots: &[Class(0), Class(1)],
+        call: Call::ByKeyed(PAIRS, &[Class(1), Class(9)], &[1]),
+        classes: &[0, 1],
+        rows: &[&[0, 1], &[2, 0]],
+    },
+    Case {
+        from: EDGES,
+        slots: &[Class(0), Class(1)],
+        call: Call::NotByKeyed(EDGES, &[Class(1), Class(9)], &[1]),
+        classes: &[0, 1],
+        rows: &[&[0, 1], &[1, 2], &[2, 0]],
+    },
+    // the rows of a key are found, those of the empty key are all, and a small table is gone through
+    Case {
+        from: EDGES,
+        slots: &[Class(0), Class(1)],
+        call: Call::OfKeyed(&[1], PAIRS, &[Class(1), Fixed(0)]),
+        classes: &[1, 0],
+        rows: &[&[1, 0]],
+    },
+    Case {
+        from: PAIRS,
+        slots: &[Class(1), Class(4)],
+        call: Call::NotOfKeyed(&[], ONE, &[]),
+        classes: &[1, 4],
+        rows: &[&[0, 1], &[1, 0]],
+    },
+    Case {
+        from: PAIRS,
+        slots: &[Class(1), Class(4)],
+        call: Call::OfKeyed(&[1], TRIPLES, &[Class(9), Class(8), Class(1)]),
+        classes: &[1, 4],
+        rows: &[&[0, 1]],
+    },
+    Case {
+        from: PAIRS,
+        slots: &[Class(1), Class(4)],
+        call: Call::NotOfKeyed(&[1], EDGES, &[Class(1), Class(9)]),
+        classes: &[1, 4],
+        rows: &[&[0, 1], &[1, 0]],
+    },
     // two shared classes, in the other order
     Case {
         from: PAIRS,
@@ -399,6 +447,50 @@ fn projected<L: Ledger>(
     Ok(Some(project(alloc, relation, classes, steps)?))
 }
 
+fn keyed<L: Ledger>(
+    alloc: Global,
+    relation: &Relation,
+    key: &[u32],
+    steps: &mut Steps<L>,
+) -> Result<Option<Keyed>, AllocError> {
+    if !are_held(relation.classes(), key) || !are_distinct(key) {
+        return Ok(None);
+    }
+    Ok(Some(Keyed::by(alloc, relation, key, steps)?))
+}
+
+fn by_keyed<L: Ledger>(
+    alloc: Global,
+    keep: &Relation,
+    by: &Relation,
+    key: &[u32],
+    steps: &mut Steps<L>,
+) -> Result<Option<Relation>, AllocError> {
+    let Some(by) = keyed(alloc, by, key, steps)? else {
+        return Ok(None);
+    };
+    if !by.shares_key(keep.classes()) {
+        return Ok(None);
+    }
+    reduction_by_keyed(alloc, keep, &by, steps)
+}
+
+fn of_keyed<L: Ledger>(
+    alloc: Global,
+    keep: &Relation,
+    key: &[u32],
+    by: &Relation,
+    steps: &mut Steps<L>,
+) -> Result<Option<Relation>, AllocError> {
+    let Some(keep) = keyed(alloc, keep, key, steps)? else {
+        return Ok(None);
+    };
+    if !keep.shares_key(by.classes()) {
+        return Ok(None);
+    }
+    reduction_of_keyed(alloc, &keep, by, steps)
+}
+
 fn called<L: Ledger>(
     alloc: Global,
     relation: Relation,
@@ -421,6 +513,28 @@ fn called<L: Ledger>(
         Call::NoReduction(rows, slots) => match relation_of(alloc, rows, slots, steps)? {
             None => Ok(None),
             Some(by) => match reduction(alloc, &relation, &by, steps)? {
+                None => Ok(Some(relation)),
+                Some(_) => Ok(None),
+            },
+        },
+        Call::ByKeyed(rows, slots, key) => match relation_of(alloc, rows, slots, steps)? {
+            None => Ok(None),
+            Some(by) => by_keyed(alloc, &relation, &by, key, steps),
+        },
+        Call::NotByKeyed(rows, slots, key) => match relation_of(alloc, rows, slots, steps)? {
+            None => Ok(None),
+            Some(by) => match by_keyed(alloc, &relation, &by, key, steps)? {
+                None => Ok(Some(relation)),
+                Some(_) => Ok(None),
+            },
+        },
+        Call::OfKeyed(key, rows, slots) => match relation_of(alloc, rows, slots, steps)? {
+            None => Ok(None),
+            Some(by) => of_keyed(alloc, &relation, key, &by, steps),
+        },
+        Call::NotOfKeyed(key, rows, slots) => match relation_of(alloc, rows, slots, steps)? {
+            None => Ok(None),
+            Some(by) => match of_keyed(alloc, &relation, key, &by, steps)? {
                 None => Ok(Some(relation)),
                 Some(_) => Ok(None),
             },

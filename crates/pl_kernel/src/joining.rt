@@ -1,7 +1,7 @@
 //! The join of all relations of a core.
 
-ghost use Rattle.std.specs.Prelude.{◌≡◌, ◌+◌, ◌<◌, ◌∷◌, ◌↔◌, ℕ, length, map, Contains, IfOk};
-ghost use Rattle.pl_join.specs.Relation.{Assignment, AreDistinct, Holds, IsJoinOfAll};
+ghost use Rattle.std.specs.Prelude.{◌≡◌, ◌+◌, ◌<◌, ◌≤◌, ◌∷◌, [], ◌↔◌, ℕ, length, map, Contains, IfOk};
+ghost use Rattle.pl_join.specs.Relation.{ClassRows, Assignment, AreDistinct, Holds, IsJoinOfAll};
 ghost use Rattle.pl_kernel.specs.ClassesMet.{classes_met};
 ghost use Rattle.pl_kernel.specs.Joining.{HaveSameJoin};
 
@@ -18,7 +18,7 @@ use std::sync::ledger::Ledger;
 /// takes the first remaining one where none does. That order changes the work, and neither the rows nor the classes.
 ///
 /// The only error is want of memory. The probes are those of the joins, and one per row of what is brought into order at
-/// the end: the one relation, or a join whose classes came in another order.
+/// the end: a join whose classes came in another order. For one relation it takes at most one probe per row.
 pub fn core_table<L: Ledger>(
     alloc: Global,
     core: &[Relation],
@@ -27,6 +27,9 @@ pub fn core_table<L: Ledger>(
     requires { 0 < length core.now }
     ensures classes { IfOk result (λ r. r.classes ≡ classes_met core.now) }
     ensures rows { IfOk result (IsJoinOfAll core.now) }
+    ensures one { (relation : ClassRows) → core.now ≡ relation ∷ []
+        → steps.new ≤ steps.old + length relation.rows }
+    ensures rise { steps.old ≤ steps.new }
 {
     let classes = ordered_classes(alloc, core)?;
     let first = &core[0];
@@ -59,6 +62,7 @@ fn join_next<L: Ledger>(
     ensures fewer { length left.new.items + 1 ≡ length left.old.items }
     ensures same { IfOk result (λ r. HaveSameJoin
         (r ∷ map (λ x. x.now) left.new.items) (joined.now ∷ map (λ x. x.now) left.old.items)) }
+    ensures rise { steps.old ≤ steps.new }
 {
     let next = left.remove(next_place(joined.classes(), left));
     hash_join(alloc, joined, next, steps)
@@ -76,6 +80,7 @@ fn arranged<L: Ledger>(
     ensures classes { IfOk result (λ r. r.classes ≡ classes.now) }
     ensures rows { IfOk result (λ r. (f : Assignment) → Holds r f ↔ Holds relation f) }
     ensures cost { relation.classes ≡ classes.now → steps.new ≡ steps.old }
+    ensures rise { steps.old ≤ steps.new }
 {
     if relation.classes() == classes {
         return Ok(relation);

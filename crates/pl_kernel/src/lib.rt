@@ -5,6 +5,7 @@
 
 mod classes;
 mod joining;
+pub mod laws;
 mod sequence;
 #[cfg(test)]
 mod tests;

@@ -1,11 +1,13 @@
 -- for the crates above: fronts of the walk extend to the whole join
 pub mod Walks
 -- for the functions of this crate
+mod PlanLaws
 mod Lists
 mod Columns
 mod Roots
 mod Arrangements
 mod PassLemmas
+mod Emptied
 mod Costs
 mod Stores
 mod Numbers

@@ -1,5 +1,5 @@
 -- The two passes of the full reducer, over relations that are numbered as the nodes are: 0 the root, then the ears by their removal.
-use Rattle.std.specs.Prelude.{◌≡◌, ◌≢◌, ◌⊎◌, ◌<◌, ◌≤◌, ◌+◌, ◌*◌, ℕ, zero, suc, List, length, slice_index, sum_by, Contains}
+use Rattle.std.specs.Prelude.{◌≡◌, ◌≢◌, ◌⊎◌, ◌<◌, ◌≤◌, ◌+◌, ◌*◌, ℕ, zero, suc, List, [], length, slice_index, sum_by, Contains}
 use Rattle.pl_join.specs.Relation.{ClassRows, Assignment, Holds, HoldsAll, Agree, IsSemijoinOf}
 use Rattle.pl_reduce.specs.Plan.{relation_at}
 
@@ -57,6 +57,13 @@ pub record IsReducedBy (old new : List ClassRows) (keep by : ℕ) : Type 0 where
   pub classes : (relation_at new keep).classes ≡ (relation_at old keep).classes
   pub rows : IsSemijoinOf (relation_at old keep) (relation_at old by) (relation_at new keep)
   pub fewer : length (relation_at new keep).rows ≤ length (relation_at old keep).rows
+
+-- the first so many relations are without their rows, and the others as they were
+pub record AreEmptied (old new : List ClassRows) (count : ℕ) : Type 0 where
+  pub many : length new ≡ length old
+  pub classes : (k : ℕ) → (relation_at new k).classes ≡ (relation_at old k).classes
+  pub rows : (k : ℕ) → k < count → (relation_at new k).rows ≡ []
+  pub fewer : (k : ℕ) → length (relation_at new k).rows ≤ length (relation_at old k).rows
 
 -- how many rows one of the relations has, and all of them together
 abbrev pub rows_at : List ClassRows → ℕ → ℕ

@@ -23,6 +23,7 @@ pub fn arrange_all<L: Ledger>(
         → All (Contains order.now) (relation_at nodes.old.items k).classes }
     ensures arranged { OnOk result (AreArrangedBelow order.now nodes.old.items nodes.new.items (length nodes.old.items)) }
     ensures cost { steps.new ≤ steps.old + total_rows nodes.old.items }
+    ensures rise { steps.old ≤ steps.new }
 {
     for node in 1..nodes.len() {
         arrange_node(alloc, nodes, node, order, steps)?;
@@ -45,6 +46,7 @@ fn arrange_node<L: Ledger>(
     ensures cost { steps.new ≤ steps.old + rows_at nodes.old.items node }
     ensures no_cost { (relation_at nodes.old.items node).classes
         ≡ ordered order.now (relation_at nodes.old.items node).classes → steps.new ≡ steps.old }
+    ensures rise { steps.old ≤ steps.new }
 {
     let relation = &nodes[node];
     let held = relation.classes();

@@ -6,6 +6,7 @@
 
 mod arranging;
 mod fitting;
+pub mod laws;
 mod parents;
 mod passes;
 mod reduced;

@@ -38,6 +38,7 @@ impl Reduced {
         ensures reduction { IfOk result (IsReductionOf (root ∷ rest.items)) }
         ensures cost { steps.new ≤ steps.old
             + (3 * (length rest.items + 1) - 1) * total_rows (root ∷ rest.items) }
+        ensures rise { steps.old ≤ steps.new }
     {
         edges_are_words(plan.edges());
         // The facts of a removal are clauses of its parts.

@@ -24,6 +24,7 @@ pub fn store_all<L: Ledger>(
     requires { length relations.items ≤ length plan.now.removed + 1 }
     ensures stored { IfOk result (λ stored. AreStored plan.now relations.items stored.items) }
     ensures cost { steps.new ≤ steps.old + total_rows relations.items }
+    ensures rise { steps.old ≤ steps.new }
 {
     let mut nodes = Vec::with_capacity(alloc, relations.len())?;
     for relation in relations {

@@ -30,7 +30,7 @@ pub Contains-nil : {K : Type 0} (z : K) → Contains [] z → ⊥
 Contains-nil z (k, h, e) = omega arith
 
 -- nothing is below itself
-not_below_itself : {K : Type 0} (R : K → K → Ordering) → IsTotalOrder R → (x : K) → R x x ≡ Less → ⊥
+pub not_below_itself : {K : Type 0} (R : K → K → Ordering) → IsTotalOrder R → (x : K) → R x x ≡ Less → ⊥
 not_below_itself R o x h = let e = tied_itself o x in cc
 
 -- no two are each below the other

@@ -3,6 +3,7 @@ pub mod Canonical
 -- for the functions of this crate
 pub mod Places
 pub mod Directory
+pub mod Keys
 pub mod Narrowing
 pub mod Sorting
 pub mod Values

@@ -1,5 +1,5 @@
 -- Where the rows of a flat list lie.
-use Rattle.std.proofs.Common.{◌≡◌, ◌+◌, ◌*◌, ◌<◌, ◌≤◌, ℕ, zero, suc, List, [], ◌∷◌, ◌++◌, length, get_or, take, drop, take-take, refl, sym, ap, ◌∙◌, All, arith, slice_get, Some}
+use Rattle.std.proofs.Common.{◌≡◌, ◌+◌, ◌-◌, ◌*◌, ◌<◌, ◌≤◌, ℕ, zero, suc, List, [], ◌∷◌, ◌++◌, length, get_or, take, drop, take-take, refl, sym, ap, ◌∙◌, All, arith, slice_get, Some}
 use Rattle.std.proofs.lemmas.List.{drop-drop, length-take-le, length-drop, drop-take, take_all, take-append-le, drop-append-le, nil_from_length, take-append-drop}
 use Rattle.std.proofs.lemmas.List.Elements.{All-nil, All-cons, All-head, All-tail, All-append, All-take, All-drop, All-contains, Contains-get_or}
 use Rattle.std.proofs.lemmas.Option.{slice_get-get_or}
@@ -72,3 +72,32 @@ take-rows_of k (suc m) (suc n) flat l h =
     let first : take k (take (k + k * m) flat) ≡ take k flat = take-take k (k + k * m) flat (omega arith) in
     let behind : drop k (take (k + k * m) flat) ≡ take (k * m) (drop k flat) = drop-take k (k * m) flat in
     rw (part, first, behind, rest) refl
+
+-- the rows behind the first ones
+pub drop-rows_of : (k m n : ℕ) (flat : List ℕ) → m ≤ n → rows_of k (n - m) (drop (k * m) flat) ≡ drop m (rows_of k n flat)
+drop-rows_of k zero n flat l = let e : k * 0 ≡ 0 = omega arith in let f : n - 0 ≡ n = omega arith in rw (e, f) refl
+drop-rows_of k (suc m) zero flat l = absurd (omega arith)
+drop-rows_of k (suc m) (suc n) flat l =
+    let e : k * suc m ≡ k + k * m = grind arith in
+    let f : suc n - suc m ≡ n - m = omega arith in
+    let rest : rows_of k (n - m) (drop (k * m) (drop k flat)) ≡ drop m (rows_of k n (drop k flat)) = drop-rows_of k m n (drop k flat) (omega arith) in
+    rw (f, e) (ap (rows_of k (n - m)) (sym (drop-drop (k * m) k flat)) ∙ rest)
+
+-- the rows from one place up to another
+pub range-rows_of : (k from to n : ℕ) (flat : List ℕ) → from ≤ to → to ≤ n → length flat ≡ k * n
+    → rows_of k (to - from) (take (k * to - k * from) (drop (k * from) flat)) ≡ take (to - from) (drop from (rows_of k n flat))
+range-rows_of k from to n flat l m h =
+    let e : k * to - k * from ≡ k * (to - from) = grind arith in
+    let f : k * (n - from) ≡ k * n - k * from = grind arith in
+    let long : length (drop (k * from) flat) ≡ k * (n - from) = omega (arith, length-drop (k * from) flat) in
+    rw e (take-rows_of k (to - from) (n - from) (drop (k * from) flat) (omega arith) long ∙ ap (take (to - from)) (drop-rows_of k from n flat (omega arith)))
+
+-- rows behind rows
+pub rows_of-append : (k m n : ℕ) (xs ys : List ℕ) → length xs ≡ k * m → rows_of k (m + n) (xs ++ ys) ≡ rows_of k m xs ++ rows_of k n ys
+rows_of-append k zero n xs ys h = let e : xs ≡ [] = nil_from_length xs (omega arith) in let f : 0 + n ≡ n = omega arith in rw (f, e) refl
+rows_of-append k (suc m) n xs ys h =
+    let e : k * suc m ≡ k + k * m = grind arith in
+    let within : k ≤ length xs = omega arith in
+    let rest : rows_of k (m + n) (drop k xs ++ ys) ≡ rows_of k m (drop k xs) ++ rows_of k n ys = rows_of-append k m n (drop k xs) ys (omega (arith, length-drop k xs)) in
+    let count : suc m + n ≡ suc (m + n) = omega arith in
+    rw (count, take-append-le k xs ys within, drop-append-le k xs ys within, rest) refl

@@ -1,8 +1,10 @@
 //! Rows in a flat slice: the row at a place, and bisection.
 
-ghost use Rattle.std.specs.Prelude.{◌≡◌, ◌↔◌, ◌*◌, ◌<◌, ◌≤◌, length, take, IsTrue, Contains, slice_get};
+ghost use Rattle.std.specs.Prelude.{◌≡◌, ◌↔◌, ◌*◌, ◌-◌, ◌<◌, ◌≤◌, length, IsTrue, Contains, slice_get, slice_range};
 ghost use Rattle.pl_rows.specs.Rows.{rows_of, IsAscending};
 ghost use Rattle.pl_rows.specs.Layout.{comes_before, IsNarrowed};
+
+use crate::range::Range;
 
 /// Row `i` of the rows that lie in `flat`.
 #[inline]
@@ -16,14 +18,16 @@ pub fn row_at(flat: &[u32], arity: usize, count: usize, i: usize) -> &[u32]
     &flat[from..from + arity]
 }
 
-/// The first rows of those that lie in `flat`, `first` of them.
-pub fn first_rows_in(flat: &[u32], arity: usize, count: usize, first: usize) -> &[u32]
+/// The rows in a range of those that lie in `flat`, one after another.
+pub fn rows_between(flat: &[u32], arity: usize, count: usize, range: Range) -> &[u32]
     requires whole { length flat.now ≡ arity * count }
-    requires within { first ≤ count }
-    ensures whole { length result.now ≡ arity * first }
-    ensures rows { rows_of arity first result.now ≡ take first (rows_of arity count flat.now) }
+    requires in_order { range.from ≤ range.to }
+    requires within { range.to ≤ count }
+    ensures whole { length result.now ≡ arity * (range.to - range.from) }
+    ensures rows { rows_of arity (range.to - range.from) result.now
+        ≡ slice_range (rows_of arity count flat.now) range.from range.to }
 {
-    &flat[..arity * first]
+    &flat[arity * range.from..arity * range.to]
 }
 
 /// How many rows have first values that are below the prefix, or with `or_equal` at most the prefix.

@@ -1,9 +1,10 @@
 //! A table that is looked up by the first values of its rows.
 
-ghost use Rattle.std.specs.Prelude.{◌≡◌, ◌+◌, ◌-◌, ◌<◌, ◌≤◌, ◌^◌, ◌++◌, ◌∷◌, [], List, ℕ, length, count_by, replicate, filter, slice_range, IfOk, IfSome, OnOk};
+ghost use Rattle.std.specs.Prelude.{◌≡◌, ◌↔◌, ◌+◌, ◌-◌, ◌<◌, ◌≤◌, ◌^◌, ◌++◌, ◌∷◌, [], List, ℕ, length, take, map, Contains, IsTrue, count_by, replicate, filter, slice_range, IfOk, IfSome, OnOk};
 ghost use Rattle.pl_rows.specs.Rows.{AreRowsOf, is_below, begins_with};
 ghost use Rattle.pl_rows.specs.Layout.{IsDirectory, IsBracket, IsFound};
 
+use crate::range::Range;
 use crate::table::Table;
 use pl_steps::Steps;
 use std::alloc::{AllocError, Global};
@@ -12,13 +13,6 @@ use std::sync::ledger::Ledger;
 
 /// Up to how many numbers, for each row of the table, the directory has entries.
 const ENTRIES_PER_ROW: usize = 4;
-
-/// The places of neighboring rows: from the first one up to, and without, the last one.
-#[derive(Clone, Copy, Debug, PartialEq, Eq)]
-pub struct Range {
-    pub from: usize,
-    pub to: usize,
-}
 
 /// A table whose rows are found by a key: their first `width` values.
 ///
@@ -105,6 +99,16 @@ impl Indexed {
         let from = self.table.bisected(key, false, near.from, near.to);
         let to = self.table.bisected(key, true, from, near.to);
         Range { from, to }
+    }
+
+    /// Whether some row's first values are the key, in one probe.
+    pub fn has<L: Ledger>(&self, key: &[u32], steps: &mut Steps<L>) -> bool
+        requires { length key.now ≡ self.now.width }
+        ensures has { IsTrue result ↔ Contains (map (take self.now.width) self.now.table.rows) key.now }
+        ensures cost { steps.new ≡ steps.old + 1 }
+    {
+        let range = self.find(key, steps);
+        range.from < range.to
     }
 }
 

@@ -4,12 +4,16 @@
 #![tactic(auto)]
 
 mod bisect;
+mod builder;
 mod indexed;
 pub mod laws;
+mod range;
 mod sort;
 mod table;
 #[cfg(test)]
 mod tests;
 
-pub use indexed::{Indexed, Range};
+pub use builder::TableBuilder;
+pub use indexed::Indexed;
+pub use range::Range;
 pub use table::Table;

@@ -1,10 +1,11 @@
 //! A table: what callers make, ask and read.
 
-ghost use Rattle.std.specs.Prelude.{◌≡◌, ◌↔◌, ◌+◌, ◌*◌, ◌<◌, ◌≤◌, ◌^◌, List, ℕ, length, take, count_by, IfOk, IsTrue, Contains, All, slice_get, vec_len};
+ghost use Rattle.std.specs.Prelude.{◌≡◌, ◌↔◌, ◌+◌, ◌*◌, ◌-◌, ◌<◌, ◌≤◌, ◌^◌, List, ℕ, length, count_by, IfOk, IsTrue, Contains, All, slice_get, slice_range, vec_len};
 ghost use Rattle.pl_rows.specs.Rows.{rows_of, AreRows, IsAscending, SameRows, is_below, AreFirst};
 ghost use Rattle.pl_rows.specs.Layout.{IsNarrowed, comes_before};
 
-use crate::bisect::{bisect, first_rows_in, has_row, row_at};
+use crate::bisect::{bisect, has_row, row_at, rows_between};
+use crate::range::Range;
 use crate::sort::{are_ascending, sorted_rows};
 use pl_steps::Steps;
 use std::alloc::{AllocError, Global};
@@ -87,16 +88,6 @@ impl Table {
         })
     }
 
-    /// A copy of the first `count` rows, one after another. It takes no probe. The only error is want of memory.
-    pub fn first_rows(&self, alloc: Global, count: usize) -> Result<Vec<u32>, AllocError>
-        requires { count ≤ length self.now.rows }
-        ensures whole { IfOk result (λ flat. length flat.items ≡ self.now.arity * count) }
-        ensures rows { IfOk result (λ flat. rows_of self.now.arity count flat.items ≡ take count self.now.rows) }
-    {
-        let arity = self.arity as usize;
-        Vec::from_slice(alloc, first_rows_in(&self.flat, arity, self.count, count))
-    }
-
     /// How many values each row has.
     pub fn arity(&self) -> u32
         ensures { result ≡ self.now.arity }
@@ -152,6 +143,17 @@ impl Table {
     {
         steps.tick();
         has_row(&self.flat, self.arity as usize, self.count, row)
+    }
+
+    /// The values of the rows in a range of places, one row after another. It takes no probe.
+    pub fn part(&self, range: Range) -> &[u32]
+        requires in_order { range.from ≤ range.to }
+        requires within { range.to ≤ length self.now.rows }
+        ensures whole { length result.now ≡ self.now.arity * (range.to - range.from) }
+        ensures rows { rows_of self.now.arity (range.to - range.from) result.now
+            ≡ slice_range self.now.rows range.from range.to }
+    {
+        rows_between(&self.flat, self.arity as usize, self.count, range)
     }
 
     /// How many rows have first values that are below the prefix, or with `or_equal` at most the prefix.

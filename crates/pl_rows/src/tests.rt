@@ -2,7 +2,7 @@
 
 ghost use Rattle.std.specs.Prelude.{◌≡◌, ◌<◌};
 
-use crate::{Indexed, Range, Table, laws};
+use crate::{Indexed, Range, Table, TableBuilder, laws};
 use pl_steps::Steps;
 use std::alloc::{AllocError, Global};
 use std::marker::Brand;
@@ -215,7 +215,7 @@ fn is_given<L: Ledger>(alloc: Global, given: &Given, blank: Blank) -> Result<boo
     }
 }
 
-/// Whether a copy has the rows, and the first rows, put together again, are those of the table.
+/// Whether a copy has the rows, and so has a table that is made of its first half and the rows behind it.
 fn is_copied<L: Ledger>(
     alloc: Global,
     table: &Table,
@@ -223,15 +223,27 @@ fn is_copied<L: Ledger>(
     steps: &mut Steps<L>,
 ) -> Result<bool, AllocError> {
     let copy = table.copied(alloc)?;
-    let half = rows.len() / 2;
-    if copy.len() < half {
-        return Ok(false);
-    }
-    let flat = copy.first_rows(alloc, half)?;
-    let Some(first) = table_of(alloc, copy.arity(), half, flat.as_slice())? else {
+    let Some(again) = rebuilt(alloc, &copy, rows.len() / 2, steps)? else {
         return Ok(false);
     };
-    Ok(reads(&copy, rows, steps) && reads(&first, &rows[..half], steps))
+    Ok(reads(&copy, rows, steps) && reads(&again, rows, steps))
+}
+
+/// The table of the first rows and of those behind them, one after another.
+fn rebuilt<L: Ledger>(
+    alloc: Global,
+    table: &Table,
+    first: usize,
+    steps: &mut Steps<L>,
+) -> Result<Option<Table>, AllocError> {
+    if table.len() < first {
+        return Ok(None);
+    }
+    let mut builder = TableBuilder::front_of(alloc, table, first)?;
+    for place in first..table.len() {
+        builder.push(table.row(place, steps))?;
+    }
+    Ok(Some(builder.into_table(alloc)?))
 }
 
 fn finds<L: Ledger>(

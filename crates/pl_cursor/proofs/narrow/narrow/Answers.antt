@@ -8,7 +8,7 @@ use Rattle.pl_cursor.proofs.Narrowing.{narrows_none, can_narrow, narrow_more, na
 use Rattle.pl_cursor.proofs.narrow.narrow.Goals as goal
 
 pub loop-t-init : goal.loop-t-init
-loop-t-init g c = (narrows_none (stages_of c.args.reduced.now) (length c.args.reduced.now.classes) c.args.frames.now c.args.answer.now (stages_laid c.args.reduced.now c.requires.layout.reduced) c.requires.onward, omega arith)
+loop-t-init g c = (narrows_none (stages_of c.args.reduced.now) (length c.args.reduced.now.classes) c.args.frames.now c.args.answer.now (stages_laid c.args.reduced.now c.requires.layout.reduced) c.requires.onward, omega arith, omega arith)
 
 pub place_of-place-requires-clause-onward : goal.place_of-place-requires-clause-onward
 place_of-place-requires-clause-onward g c =
@@ -29,6 +29,7 @@ loop-t-preserved g c =
           (omega (arith, c.requires.layout.count)) (omega (arith, c.requires.layout.narrow, c.requires.layout.few, c.requires.frames, c.loop-t.auto.frames)) (omega (arith, few, c.requires.answer))
           c.loop-t.invariant.0 c.place_of-place.ensures.place (not_false c.place_of-place.result.found c.if-not-place.false),
       omega (arith, c.place_of-place.ensures.cost, c.loop-t.invariant.1),
+      omega (arith, c.place_of-place.ensures.rise, c.loop-t.invariant.2),
     )
 
 pub returns-clause-narrowed : goal.returns-clause-narrowed

@@ -13,7 +13,8 @@ loop-i-preserved g c = record {
   flat = joined_more c.args.index.now.table.rows c.args.columns.now c.args.left.now.rows c.loop-i.i _ c.row-row.result.now _ _ _ _
       c.row-row.ensures.row c.pick.ensures (c.pick.auto.values ∙ c.loop-i.invariant.key)
       (ap (λ (t : Rows). slice_range t.rows c.find-range.result.from c.find-range.result.to) c.table-table.ensures ∙ c.find-range.ensures.all)
-      c.loop-i.invariant.flat c.in_ok-append_matches.ensures;
+      c.loop-i.invariant.flat c.in_ok-append_matches.ensures.matches;
+  rise = omega (arith, c.row-row.ensures.cost, c.find-range.ensures.cost, c.append_matches.ensures.rise, c.loop-i.invariant.rise);
 }
 
 pub from_rows-requires : goal.from_rows-requires

@@ -1,10 +1,12 @@
-use Rattle.std.proofs.Common.{◌≢◌, true, All, Contains, sym, subst, ◌∙◌, Option, IfSome, IfNone}
+use Rattle.std.proofs.Common.{◌≢◌, true, length, All, Contains, ap, sym, subst, ◌∙◌, Option, IfSome, IfNone}
 use Rattle.std.proofs.lemmas.List.Kept.{AllPairs-filter}
 use Rattle.std.proofs.lemmas.Option.{IfSome_then}
 use Rattle.std.proofs.lemmas.Result.{IfOk-weaker}
 use Rattle.std.proofs.lemmas.Slice.Eq.{bytes_eq-Decides}
 use Rattle.pl_join.specs.Relation.{ClassRows, AreDistinct, IsJoinOf, IsSemijoinOf, has_class}
 use Rattle.pl_join.proofs.Operations.{semijoined_by, whole_projection, shared_in, shared_held, chosen_is, none_weaker}
+use Rattle.pl_rows.specs.Rows.{Rows}
+use Rattle.pl_join.proofs.Empties.{none_to_drop, no_row, all_kept_by, not_apart}
 use Rattle.pl_join.proofs.semijoins.reduction.Goals as goal
 
 pub reduced-requires : goal.reduced-requires
@@ -57,3 +59,29 @@ returns-clause-same g c =
     let step = semijoined_by c.args.keep.now c.args.by.now c.in_ok-projected.projected c.args.keep.now (c.in_ok-projected.ensures.classes ∙ shared) c.in_ok-projected.ensures.rows in
     IfOk-weaker _ (λ (r : Option ClassRows). IfNone r (IsJoinOf c.args.keep.now c.in_ok-projected.projected c.args.keep.now)) (λ (r : Option ClassRows). IfNone r (IsSemijoinOf c.args.keep.now c.args.by.now c.args.keep.now))
     (λ r h. none_weaker r step h) c.reduced-2.ensures.same
+
+pub returns-then-is_empty-clause-same : goal.returns-then-is_empty-clause-same
+returns-then-is_empty-clause-same g c =
+    none_to_drop c.args.keep.now c.args.by.now
+    (no_row c.args.keep.now.rows (sym (ap (λ (t : Rows). length t.rows) c.table.ensures) ∙ c.is_empty.ensures.0 c.if-is_empty.true))
+
+pub returns-then-is_empty-3-clause-same : goal.returns-then-is_empty-3-clause-same
+returns-then-is_empty-3-clause-same g c =
+    let shared = chosen_is true c.args.by.now.classes c.args.keep.now.classes _ _ _ _ c.classes-classes.ensures.classes c.classes.ensures.classes c.in_ok-shared.ensures c.as_slice-shared.ensures.value in
+    all_kept_by c.args.keep.now c.args.by.now c.as_slice-shared.result.now c.table-2.result.now c.is_empty-3.result c.is_empty-2.result c.classes-classes.ensures.relation shared c.is_empty-3.ensures c.if-is_empty-3.true
+    c.table-2.ensures c.is_empty-2.ensures c.if-is_empty-2.false
+
+pub returns-then-eq-clause-apart : goal.returns-then-eq-clause-apart
+returns-then-eq-clause-apart g c apart =
+    let shared = chosen_is true c.args.by.now.classes c.args.keep.now.classes _ _ _ _ c.classes-classes.ensures.classes c.classes.ensures.classes c.in_ok-shared.ensures c.as_slice-shared.ensures.value in
+    absurd (not_apart c.args.keep.now c.args.by.now c.as_slice-shared.result.now c.is_empty-3.result shared c.is_empty-3.ensures c.if-is_empty-3.false apart)
+
+pub returns-in_err-projected-clause-apart : goal.returns-in_err-projected-clause-apart
+returns-in_err-projected-clause-apart g c apart =
+    let shared = chosen_is true c.args.by.now.classes c.args.keep.now.classes _ _ _ _ c.classes-classes.ensures.classes c.classes.ensures.classes c.in_ok-shared.ensures c.as_slice-shared.ensures.value in
+    absurd (not_apart c.args.keep.now c.args.by.now c.as_slice-shared.result.now c.is_empty-3.result shared c.is_empty-3.ensures c.if-is_empty-3.false apart)
+
+pub returns-clause-apart : goal.returns-clause-apart
+returns-clause-apart g c apart =
+    let shared = chosen_is true c.args.by.now.classes c.args.keep.now.classes _ _ _ _ c.classes-classes.ensures.classes c.classes.ensures.classes c.in_ok-shared.ensures c.as_slice-shared.ensures.value in
+    absurd (not_apart c.args.keep.now c.args.by.now c.as_slice-shared.result.now c.is_empty-3.result shared c.is_empty-3.ensures c.if-is_empty-3.false apart)

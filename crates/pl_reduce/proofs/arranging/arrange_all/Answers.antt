@@ -19,4 +19,5 @@ loop-node-preserved g c = record {
       c.loop-node.invariant.arranged c.in_ok-arrange_node.ensures.arranged;
   cost = arranged_cost c.args.order.now c.args.nodes.now.items c.loop-node.nodes.items c.loop-node.node _ c.loop-node.steps _ (omega (arith, c.len-node-end.ensures, c.loop-node-test.true))
       c.loop-node.invariant.arranged c.loop-node.invariant.cost c.arrange_node.ensures.cost;
+  rise = omega (arith, c.arrange_node.ensures.rise, c.loop-node.invariant.rise);
 }

@@ -7,6 +7,7 @@ invariant-loop-before g l = record {
   many : length l.nodes.items ≡ l.last + 1;
   passed : IsPassedUp l.fn.nodes.items l.nodes.items l.before;
   cost : l.steps ≤ l.fn.steps + up_probes l.fn.nodes.items l.parents l.before;
+  rise : l.fn.steps ≤ l.steps;
 }
 
 abbrev pub invariant-loop-done : goal.invariant-loop-done
@@ -14,4 +15,5 @@ invariant-loop-done g l = record {
   many : length l.nodes.items ≡ l.last + 1;
   passed : IsPassedDown l.fn.nodes.items l.nodes.items (l.last - l.done);
   cost : l.steps + down_probes l.fn.nodes.items l.parents (l.last - l.done) ≤ l.fn.steps + up_probes l.fn.nodes.items l.parents l.last + down_probes l.fn.nodes.items l.parents l.last;
+  rise : l.fn.steps ≤ l.steps;
 }

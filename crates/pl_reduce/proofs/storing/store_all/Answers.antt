@@ -29,4 +29,5 @@ loop-relation-preserved g c = record {
   cost = (let more = total_more c.loop-relation.yielded c.in-Some.relation in
       let rows = ap (λ (t : Rows). length t.rows) c.into_table.ensures in
       omega (arith, more, rows, c.build.ensures.most, c.loop-relation.invariant.cost));
+  rise = omega (arith, c.build.ensures.rise, c.loop-relation.invariant.rise);
 }

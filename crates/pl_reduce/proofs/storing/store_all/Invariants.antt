@@ -8,4 +8,5 @@ invariant-loop-relation g l = record {
   all : l.yielded ++ l.relation-iterator.rest.items ≡ l.fn.relations.items;
   stored : AreStored l.plan l.yielded l.nodes.items;
   cost : l.steps ≤ l.initial.steps + total_rows l.yielded;
+  rise : l.initial.steps ≤ l.steps;
 }
