@@ -1,0 +1,31 @@
+use Rattle.std.proofs.Common.{arith, sym, false}
+use Rattle.pl_rows.proofs.Narrowing.{narrowed_up, narrowed_down, narrowed_end}
+use Rattle.pl_state.proofs.rows.first_from.Goals as goal
+
+pub loop-low-init : goal.loop-low-init
+loop-low-init c = record {
+  within = omega arith;
+  in_order = c.requires.within;
+  from = omega arith;
+  narrowed = c.requires.narrowed;
+}
+
+pub loop-low-preserved-then-is_before : goal.loop-low-preserved-then-is_before
+loop-low-preserved-then-is_before c = record {
+  within = omega arith;
+  in_order = omega arith;
+  from = omega arith;
+  narrowed = narrowed_up false c.args.row.now _ _ _ _ _ c.requires.ascending c.row_at.ensures.row (sym c.if-is_before.ensures) c.loop-low.invariant.narrowed;
+}
+
+pub loop-low-preserved : goal.loop-low-preserved
+loop-low-preserved c = record {
+  within = omega arith;
+  in_order = omega arith;
+  from = omega arith;
+  narrowed = narrowed_down false c.args.row.now _ _ _ _ _ c.requires.ascending c.row_at.ensures.row (sym c.if-is_before.ensures) c.loop-low.invariant.narrowed;
+}
+
+pub returns-clause-narrowed : goal.returns-clause-narrowed
+returns-clause-narrowed c =
+    narrowed_end _ _ _ _ c.loop-low.invariant.in_order (omega arith) c.loop-low.invariant.narrowed

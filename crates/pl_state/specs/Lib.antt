@@ -1,0 +1,11 @@
+-- what the public contracts rest on
+pub mod Layout
+pub mod StateOf
+pub mod Tables
+pub mod Decided
+pub mod Laws
+-- what the functions inside the crate promise each other
+pub mod Reading
+pub mod Changing
+-- the task of the tests
+pub mod Hops
