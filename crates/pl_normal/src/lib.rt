@@ -1,0 +1,24 @@
+//! The normal form of an action schema: a query over the relations of a state.
+//!
+//! Parameters that equalities join are one class, and literals become guards, edges and filters (`specs/NormalForm.antt`, over
+//! `specs/Classes.antt`). The ears of the edges give the order of the parameters (`specs/EarRemoval.antt`,
+//! `specs/ParameterOrder.antt`), and with it the order of steps (`specs/StepOrder.antt`), the lists of all steps and of the
+//! applicable ones (`specs/Steps.antt`), and the measures that bounds on work are stated in (`specs/Measures.antt`). That
+//! the query says what applicability says stands in `specs/Query.antt` and `specs/Laws.antt`.
+#![tactic(auto)]
+
+mod classes;
+mod edges;
+mod filters;
+mod form;
+mod guards;
+pub mod laws;
+mod normalizing;
+mod order;
+mod slots;
+mod tables;
+#[cfg(test)]
+mod tests;
+
+pub use form::{Edge, Guard, NormalSchema, Placed, Sieve, Source};
+pub use normalizing::{NormalTask, normal};

@@ -1,0 +1,188 @@
+//! The normal forms of all schemas of a task, with what no state changes.
+
+ghost use Rattle.std.specs.Prelude.{◌≡◌, ◌<◌, ◌^◌, length, map, slice_index, slice_get, Some, All, IfOk, IfSome, IfNone, true, false};
+ghost use Rattle.pl_rows.specs.Rows.{row_cmp};
+ghost use Rattle.pl_task.specs.declared.data.Schema.{Schema as SchemaOf};
+ghost use Rattle.pl_task.specs.States.{IsStep};
+ghost use Rattle.pl_task.specs.WellFormed.{IsSchemaOf, is_fluent};
+ghost use Rattle.pl_normal.specs.Edges.{sets_of};
+ghost use Rattle.pl_normal.specs.EarRemoval.{ear_removal};
+ghost use Rattle.pl_normal.specs.NormalForm.{IsNormalForm};
+ghost use Rattle.pl_normal.specs.StepOrder.{step_cmp, read_in};
+ghost use Rattle.pl_normal.specs.Tables.{AreStatics, IsAtomTable};
+ghost use Rattle.pl_normal.specs.NormalTasks.{AreNormalForms};
+
+use crate::classes::{class_slots, fixings, parameter_classes, slot_objects};
+use crate::edges::{edges, sets_of};
+use crate::filters::filters;
+use crate::form::{Edge, NormalSchema};
+use crate::guards::guards;
+use crate::order::parameter_order;
+use crate::tables::static_tables;
+use pl_hyper::{EarPlan, ears};
+use pl_rows::Table;
+use pl_task::{List, Schema, StepRef, Task};
+use std::alloc::{AllocError, Global};
+use std::cmp::Ordering;
+use std::marker::Model;
+
+/// A task with the normal form of each schema and the table of each static predicate.
+///
+/// Contracts see it as the task: it has nothing that the task leaves open.
+#[derive(Drop)]
+pub struct NormalTask<'t> {
+    task: &'t Task,
+    schemas: Vec<NormalSchema>,
+    statics: Vec<Option<Table>>,
+}
+
+impl<'t> Model for NormalTask<'t> {
+    ghost use Rattle.pl_task.specs.declared.task.Task.{Task as TaskOf};
+    ghost use Rattle.pl_normal.specs.NormalTasks.{IsNormalTask};
+
+    ghost Value = { TaskOf };
+
+    ghost view = { λ n. n.task.now };
+
+    ghost invariant = { λ n. IsNormalTask n.task.now n.schemas.items n.statics.items };
+}
+
+/// The normal forms of all schemas of a task. The only error is want of memory.
+pub fn normal<'t>(alloc: Global, task: &'t Task) -> Result<NormalTask<'t>, AllocError>
+    ensures { IfOk result (λ n. n ≡ task.now) }
+{
+    let statics = static_tables(alloc, task)?;
+    let schemas = normal_schemas(alloc, task, &statics)?;
+    Ok(NormalTask {
+        task,
+        schemas,
+        statics,
+    })
+}
+
+/// The normal form of each schema.
+fn normal_schemas(
+    alloc: Global,
+    task: &Task,
+    statics: &[Option<Table>],
+) -> Result<Vec<NormalSchema>, AllocError>
+    requires { AreStatics task.now statics.now }
+    ensures { IfOk result (λ v. AreNormalForms task.now v.items) }
+{
+    let schemas = task.schemas.as_slice();
+    let mut forms = Vec::with_capacity(alloc, schemas.len())?;
+    for i in 0..schemas.len() {
+        forms.push(normal_schema(alloc, task, statics, &schemas[i])?)?;
+    }
+    Ok(forms)
+}
+
+/// The normal form of a schema.
+fn normal_schema(
+    alloc: Global,
+    task: &Task,
+    statics: &[Option<Table>],
+    schema: &Schema,
+) -> Result<NormalSchema, AllocError>
+    requires statics { AreStatics task.now statics.now }
+    requires schema { IsSchemaOf task.now.types task.now.objects task.now.predicates schema.now }
+    ensures { IfOk result (IsNormalForm task.now schema.now) }
+{
+    let parameters = schema.parameters.as_slice();
+    let condition = schema.condition.as_slice();
+    let classes = parameter_classes(alloc, schema)?;
+    let names = classes.as_slice();
+    let found = fixings(alloc, condition)?;
+    let given = found.as_slice();
+    let made = class_slots(alloc, names, given)?;
+    let slots = made.as_slice();
+    let fixed = slot_objects(alloc, slots)?;
+    let edges = edges(alloc, slots, condition)?;
+    let all = edges.as_slice();
+    let guards = guards(alloc, task, statics, parameters, slots, condition)?;
+    let filters = filters(alloc, all, slots, condition)?;
+    let plan = plan_of(alloc, all)?;
+    let order = parameter_order(alloc, parameters.len() as u32, &plan)?;
+    Ok(NormalSchema {
+        class_of: List::of(classes),
+        fixed: List::of(fixed),
+        edges: List::of(edges),
+        guards: List::of(guards),
+        local: List::of(filters.local),
+        late: List::of(filters.late),
+        plan,
+        order: List::of(order),
+    })
+}
+
+/// The removal of ears from the edges.
+fn plan_of(alloc: Global, edges: &[Edge]) -> Result<EarPlan, AllocError>
+    requires { length edges.now < 2 ^ 32 }
+    ensures { IfOk result (λ p. p ≡ ear_removal (sets_of edges.now)) }
+{
+    let sets = sets_of(alloc, edges)?;
+    ears(alloc, sets.as_slice())
+}
+
+impl<'t> NormalTask<'t> {
+    /// The task.
+    pub fn task(&self) -> &'t Task
+        ensures { result.now ≡ self.now }
+    {
+        self.task
+    }
+
+    /// The normal form of schema `i`.
+    pub fn schema(&self, i: u32) -> &NormalSchema
+        requires { i < length self.now.schemas }
+        ensures { (s : SchemaOf) → slice_get self.now.schemas i ≡ Some s → IsNormalForm self.now s result.now }
+    {
+        &self.schemas[i as usize]
+    }
+
+    /// The table of the initial atoms of a static predicate, which are its atoms in every reachable state.
+    pub fn static_table(&self, predicate: u32) -> Option<&Table>
+        requires { predicate < length self.now.predicates }
+        ensures table { IfSome result (λ t. IsAtomTable self.now predicate t.now) }
+        ensures is_static { IfSome result (λ t. is_fluent self.now.schemas predicate ≡ false) }
+        ensures fluent { IfNone result (is_fluent self.now.schemas predicate ≡ true) }
+    {
+        self.statics[predicate as usize].as_ref()
+    }
+
+    /// How two steps of the task are ordered: by their schemas, and then by their objects in the schema's parameter order.
+    pub fn step_cmp(&self, a: StepRef<'_>, b: StepRef<'_>) -> Ordering
+        requires a { IsStep self.now (record { schema = a.schema; args = a.args.now }) }
+        requires b { IsStep self.now (record { schema = b.schema; args = b.args.now }) }
+        ensures { result ≡ step_cmp self.now (record { schema = a.entry.schema; args = a.entry.args.now })
+            (record { schema = b.entry.schema; args = b.entry.args.now }) }
+    {
+        if a.schema < b.schema {
+            return Ordering::Less;
+        }
+        if b.schema < a.schema {
+            return Ordering::Greater;
+        }
+        let form = self.schema(a.schema);
+        args_cmp(form.order.as_slice(), a.args, b.args)
+    }
+}
+
+/// How objects that are read in an order of parameters are ordered: the first difference decides.
+fn args_cmp(order: &[u32], a: &[u32], b: &[u32]) -> Ordering
+    requires a { All (λ p. p < length a.now) order.now }
+    requires b { All (λ p. p < length b.now) order.now }
+    ensures { result ≡ row_cmp (read_in order.now a.now) (read_in order.now b.now) }
+{
+    for p in order {
+        let x = a[*p as usize];
+        let y = b[*p as usize];
+        if x < y {
+            return Ordering::Less;
+        }
+        if y < x {
+            return Ordering::Greater;
+        }
+    }
+    Ordering::Equal
+}
