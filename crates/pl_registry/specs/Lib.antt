@@ -1,0 +1,11 @@
+-- what the claims on searches rest on
+pub mod StateSpace
+pub mod SearchRecord
+pub mod Cut
+pub mod Novelty
+pub mod Ending
+pub mod Laws
+-- what contracts see of a registry
+pub mod Registered
+-- what the functions inside the crate promise each other
+pub mod Links

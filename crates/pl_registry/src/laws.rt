@@ -1,0 +1,24 @@
+//! Laws about the records of searches. Each function does nothing and takes no memory; its contract is the law.
+
+ghost use Rattle.pl_registry.specs.Laws.{FoundListsArePlans, UnsolvableHasNoPlan, NoneIsShorter, LimitIsPassed, EndingIsOne};
+
+use crate::search::Search;
+use pl_task::Task;
+
+/// What a search finds is a plan, where it says that there is none there is none, and where its limit ends it, more states than
+/// the limit are reachable.
+pub fn endings_are_true(_task: &Task, _search: Search)
+    ensures found { FoundListsArePlans _task.now _search }
+    ensures unsolvable { UnsolvableHasNoPlan _task.now _search }
+    ensures limit { LimitIsPassed _task.now _search }
+{}
+
+/// No plan has fewer steps than the one that breadth-first search finds, whatever it cuts of states without a goal.
+pub fn none_is_shorter(_task: &Task)
+    ensures shorter { NoneIsShorter _task.now }
+{}
+
+/// A search with a limit has one ending: no two differ in the record, the outcome, the plan or the counts.
+pub fn one_ending(_task: &Task, _search: Search, _limit: u32)
+    ensures one { EndingIsOne _task.now _search _limit }
+{}
