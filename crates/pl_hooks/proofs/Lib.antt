@@ -1,0 +1,2 @@
+-- a stuck goal literal stays stuck
+pub mod Hopeless
