@@ -1,0 +1,2 @@
+-- the texts that are made
+pub mod Texts
