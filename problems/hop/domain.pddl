@@ -1,3 +1,4 @@
+; The smallest: from a place to a linked one.
 (define (domain hop)
  (:predicates (at ?x) (link ?x ?y))
  (:action hop :parameters (?x ?y)

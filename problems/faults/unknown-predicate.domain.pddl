@@ -1,0 +1,8 @@
+; prints: powerlift: domain:7:43: unknown predicate
+(define (domain doors)
+  (:types door room)
+  (:predicates (between ?d - door ?x ?y - room) (open ?d - door) (in ?x - room))
+  (:action pass
+    :parameters (?d - door ?x ?y - room)
+    :precondition (and (between ?d ?x ?y) (ajar ?d) (in ?x))
+    :effect (and (in ?y) (not (in ?x)))))

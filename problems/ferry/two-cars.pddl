@@ -1,0 +1,5 @@
+(define (problem two-cars)
+  (:domain ferry)
+  (:objects mini van - car north south - port)
+  (:init (ferry-at north) (car-at mini north) (car-at van north) (empty))
+  (:goal (and (car-at mini south) (car-at van south))))
