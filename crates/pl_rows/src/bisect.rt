@@ -1,4 +1,4 @@
-//! Rows in a flat slice: the row at a place, and bisection.
+//! Rows in a flat slice, which need be no table: the row at a place, and bisection. No probe is counted.
 
 ghost use Rattle.std.specs.Prelude.{◌≡◌, ◌↔◌, ◌*◌, ◌-◌, ◌<◌, ◌≤◌, length, IsTrue, Contains, slice_get, slice_range};
 ghost use Rattle.pl_rows.specs.Rows.{rows_of, IsAscending};

@@ -3,7 +3,7 @@
 //! What a table is, the order of its rows and what its set is stand in `specs/Rows.antt`.
 #![tactic(auto)]
 
-mod bisect;
+pub mod bisect;
 mod builder;
 mod indexed;
 pub mod laws;

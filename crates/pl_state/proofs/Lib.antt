@@ -12,6 +12,10 @@ pub mod Mergings
 pub mod Applyings
 -- the tables of a state
 pub mod Tablings
+-- what a state feeds a hasher
+pub mod Feedings
+-- the tables of the static atoms
+pub mod StaticTables
 -- the goal with its static part decided
 pub mod Decidings
 -- the task of the tests

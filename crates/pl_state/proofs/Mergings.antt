@@ -28,6 +28,12 @@ use Rattle.pl_state.proofs.Packings.{flat-rows_of}
 use Rattle.pl_state.proofs.Namings.{row_wide, named_held}
 use Rattle.pl_state.proofs.Orders.{IsLower, lower_none, lower_up_to, below_from, below_to, up_to_itself, up_to_from_below, up_to_cases, up_to_trans, ascending_nil, ascending_one, ascending_append, ascending_between}
 
+-- there is no row between a place and itself
+pub none_between : (rows : List (List ℕ)) (old : List ℕ) (from to : ℕ) → from ≡ to → old ≡ old ++ flat_map (λ row. row) (rows_between from to rows)
+none_between rows old from to same =
+    let none : to - from ≡ 0 = omega (arith, same) in
+    sym (append-nil old) ∙ ap (λ n. old ++ flat_map (λ row. row) (take n (drop from rows))) (sym none)
+
 -- a row between two places stands at a place between them, and the other way round
 between_at : (rows : List (List ℕ)) (i j m : ℕ) → i ≤ m → m < j → m < length rows → Contains (rows_between i j rows) (get_or rows m [])
 between_at rows i j m l h inside =

@@ -1,5 +1,6 @@
 -- The rows of the atoms of a predicate, sorted and put behind their number.
-use Rattle.std.proofs.Common.{◌≡◌, ◌⊎◌, ◌↔◌, ◌+◌, ◌*◌, ◌<◌, ◌^◌, ◌==◌, ℕ, zero, suc, true, false, cond, List, [], ◌∷◌, ◌++◌, length, map, get_or, take, drop, refl, sym, ap, ◌∙◌, subst, inl, inr, All, Contains, IsTrue, arith, append_assoc, eqb-true, eq-eqb, nat_eq, slice_get, Some}
+use Rattle.std.proofs.Common.{◌≡◌, ◌⊎◌, ◌↔◌, ◌+◌, ◌*◌, ◌<◌, ◌^◌, ◌==◌, ℕ, zero, suc, true, false, cond, List, [], ◌∷◌, ◌++◌, length, map, get_or, take, drop, refl, sym, ap, ◌∙◌, subst, inl, inr, All, Contains, IsTrue, arith, append_assoc, eqb-true, eq-eqb, nat_eq, slice_get, Some, Result, Ok, Err, IfOk}
+use Rattle.std.specs.declared.alloc.AllocError.{AllocError}
 use Rattle.std.specs.List.{flat_map, filter}
 use Rattle.std.proofs.lemmas.Bool.{cases_Bool}
 use Rattle.std.proofs.lemmas.List.{take_all, take-append-drop, length-drop, nil_from_length, map_push, append-nil}
@@ -14,6 +15,7 @@ use Rattle.pl_task.specs.WellFormed.{IsAtomOf}
 use Rattle.pl_task.specs.States.{state_of}
 use Rattle.pl_task.proofs.StateLemmas.{state_of-members}
 use Rattle.pl_state.specs.Layout.{atom_of, part_of}
+use Rattle.pl_state.specs.Statics.{IsAtomTable}
 use Rattle.pl_state.specs.Changing.{AppendsPart, IsAtomAt}
 
 -- rows that are cut out of a flat list, joined again
@@ -99,30 +101,40 @@ rows_among-members p atoms row = (
   (λ t. rows_among-to p atoms row ((state_of-members atoms (atom_of p row)).0 t)),
 )
 
+-- the table of the atoms of a predicate
+gathered_table : (p k n : ℕ) (atoms : List Atom) (flat : List ℕ) (table : Rows) → rows_of k n flat ≡ rows_among p atoms → table.arity ≡ k →
+    AreRows k table.rows → SameRows table.rows (rows_of k n flat) → IsAtomTable (state_of atoms) p k table
+gathered_table p k n atoms flat table gathered arity rows same = record {
+  wide = arity;
+  rows_are = rows;
+  members = λ row. (
+    (λ h. (rows_among-members p atoms row).0 (subst (λ rs. Contains rs row) gathered ((same row).0 h))),
+    (λ t. (same row).1 (subst (λ rs. Contains rs row) (sym gathered) ((rows_among-members p atoms row).1 t))),
+  );
+}
+
+pub table_along : (p k n : ℕ) (atoms : List Atom) (flat : List ℕ) (result : Result Rows AllocError) → rows_of k n flat ≡ rows_among p atoms → IfOk result (λ (t : Rows). t.arity ≡ k) →
+    IfOk result (λ (t : Rows). AreRows k t.rows) → IfOk result (λ (t : Rows). SameRows t.rows (rows_of k n flat)) → IfOk result (IsAtomTable (state_of atoms) p k)
+table_along p k n atoms flat (Ok table) gathered arity rows same = gathered_table p k n atoms flat table gathered arity rows same
+table_along p k n atoms flat (Err e) gathered arity rows same = tt
+
 -- the part that is appended
-pub packed_part : (objects p k n : ℕ) (atoms : List Atom) (old new flat : List ℕ) (table : Rows) → All (IsAtomAt objects p k) atoms →
-    rows_of k n flat ≡ rows_among p atoms → table.arity ≡ k → AreRows k table.rows → SameRows table.rows (rows_of k n flat) →
-    new ≡ old ++ part_of table.rows → length table.rows < 2 ^ 32 → AppendsPart objects (state_of atoms) p k old new
-packed_part objects p k n atoms old new flat table well gathered arity rows same words few = record {
+pub packed_part : (objects p k : ℕ) (atoms : List Atom) (old new : List ℕ) (table : Rows) → All (IsAtomAt objects p k) atoms →
+    IsAtomTable (state_of atoms) p k table → new ≡ old ++ part_of table.rows → length table.rows < 2 ^ 32 → AppendsPart objects (state_of atoms) p k old new
+packed_part objects p k atoms old new table well is words few = record {
   rows = table.rows;
   words_are = words;
   true_rows = record {
-    table = rows;
-    members = member;
+    table = is.rows_are;
+    members = is.members;
     within = λ i d l. object_rows (get_or table.rows i d) (Contains-get_or table.rows i d l);
     few = few;
   };
 }
   where
-    member : (row : List ℕ) → Contains table.rows row ↔ IsTrue (state_of atoms (atom_of p row))
-    member row = (
-      (λ h. (rows_among-members p atoms row).0 (subst (λ rs. Contains rs row) gathered ((same row).0 h))),
-      (λ t. (same row).1 (subst (λ rs. Contains rs row) (sym gathered) ((rows_among-members p atoms row).1 t))),
-    )
-
     object_rows : (row : List ℕ) → Contains table.rows row → All (λ o. o < objects) row
     object_rows row h =
-        (All-contains (IsAtomAt objects p k) atoms (atom_of p row) well (rows_among-from p atoms row (subst (λ rs. Contains rs row) gathered ((same row).0 h)))).within refl
+        (All-contains (IsAtomAt objects p k) atoms (atom_of p row) well ((state_of-members atoms (atom_of p row)).0 ((is.members row).0 h))).within refl
 
 pub wide_atoms : (objects p k : ℕ) (atoms : List Atom) → All (IsAtomAt objects p k) atoms → All (λ (a : Atom). a.predicate ≡ p → length a.objects ≡ k) atoms
 wide_atoms objects p k atoms h = All-weaker (IsAtomAt objects p k) (λ (a : Atom). a.predicate ≡ p → length a.objects ≡ k) (λ a x. x.wide) atoms h

@@ -2,10 +2,12 @@
 pub mod Layout
 pub mod StateOf
 pub mod Tables
+pub mod Statics
 pub mod Decided
 pub mod Laws
 -- what the functions inside the crate promise each other
 pub mod Reading
 pub mod Changing
+pub mod Feeding
 -- the task of the tests
 pub mod Hops

@@ -94,7 +94,9 @@ pub fn next_effect<'e>(
 }
 
 /// The same among further effects, where `best` is the least among those before them.
-#[inline]
+///
+/// It is called for each row of a step, and its many parameters cost as much as its work.
+#[inline(always)]
 fn least<'e>(
     args: &[u32],
     effects: &'e [Lifted],

@@ -1,20 +1,21 @@
 //! Which atoms are true in a state, and what of the goal.
 
-ghost use Rattle.std.specs.Prelude.{◌≡◌};
+ghost use Rattle.std.specs.Prelude.{◌≡◌, true};
 ghost use Rattle.pl_task.specs.States.{state_of, is_same};
 ghost use Rattle.pl_task.specs.Goal.{is_goal_met, is_goal, unmet as unmet_in};
 ghost use Rattle.pl_task.specs.WellFormed.{IsAtomOf};
 ghost use Rattle.pl_state.specs.Layout.{atom_of};
-ghost use Rattle.pl_state.specs.StateOf.{state_in, IsStateOf};
+ghost use Rattle.pl_state.specs.StateOf.{is_fluent_in, state_in, IsStateOf};
 
 use crate::packed::Packed;
 use crate::parts::rows_in_words;
-use crate::rows::has_row;
+use pl_rows::bisect::has_row;
 use pl_task::{Atom, GoalLiteral, Task};
 
 /// Whether an atom of the task is true in the state.
 ///
-/// An atom over a fluent predicate is looked up by bisection. One over a static predicate is sought among the initial atoms.
+/// An atom over a fluent predicate is looked up by bisection. One over a static predicate is sought among the initial atoms
+/// one by one, since they are in no order: for more than a few questions ask `StaticAtoms::holds`, which bisects.
 pub fn holds(task: &Task, state: &Packed, predicate: u32, args: &[u32]) -> bool
     requires state { IsStateOf task.now state.now }
     requires atom { IsAtomOf task.now.objects task.now.predicates (atom_of predicate args.now) }
@@ -23,6 +24,17 @@ pub fn holds(task: &Task, state: &Packed, predicate: u32, args: &[u32]) -> bool
     if task.predicates.as_slice()[predicate as usize].is_static {
         return is_initial(task.init.as_slice(), predicate, args);
     }
+    holds_fluent(task, state, predicate, args)
+}
+
+/// Whether an atom over a fluent predicate is true in the state.
+#[inline]
+pub fn holds_fluent(task: &Task, state: &Packed, predicate: u32, args: &[u32]) -> bool
+    requires state { IsStateOf task.now state.now }
+    requires atom { IsAtomOf task.now.objects task.now.predicates (atom_of predicate args.now) }
+    requires fluent { is_fluent_in task.now predicate ≡ true }
+    ensures { result ≡ state_in task.now state.now (atom_of predicate args.now) }
+{
     let rows = rows_in_words(task, state.words(), predicate);
     has_row(rows.flat, args.len(), rows.count, args)
 }
@@ -41,7 +53,7 @@ fn is_atom(atom: &Atom, predicate: u32, args: &[u32]) -> bool
     predicate == atom.predicate && args == atom.objects.as_slice()
 }
 
-/// Whether the state is a goal state: each literal of the goal is met.
+/// Whether the state is a goal state: each literal of the goal is met. A search asks a `GoalTest`.
 pub fn goal_holds(task: &Task, state: &Packed) -> bool
     requires { IsStateOf task.now state.now }
     ensures { result ≡ is_goal task.now (state_in task.now state.now) }
@@ -54,7 +66,7 @@ pub fn goal_holds(task: &Task, state: &Packed) -> bool
     true
 }
 
-/// The number of goal literals, repeats counted, that are not met.
+/// The number of goal literals, repeats counted, that are not met. A search asks a `GoalTest`.
 pub fn unmet(task: &Task, state: &Packed) -> u32
     requires { IsStateOf task.now state.now }
     ensures { result ≡ unmet_in task.now (state_in task.now state.now) }

@@ -1,13 +1,16 @@
 //! The goal of a task, with what no step changes decided once.
 
-ghost use Rattle.std.specs.Prelude.{◌≡◌, ◌<◌, IfOk, length};
+ghost use Rattle.std.specs.Prelude.{◌≡◌, ◌<◌, false, IfOk, length};
 ghost use Rattle.pl_task.specs.States.{initial};
 ghost use Rattle.pl_task.specs.Goal.{is_goal, is_goal_met, unmet as unmet_in};
+ghost use Rattle.pl_task.specs.WellFormed.{IsAtomOf};
 ghost use Rattle.pl_state.specs.StateOf.{is_fluent_in, state_in, IsStateOf};
 ghost use Rattle.pl_state.specs.Decided.{IsDecidedGoal};
+ghost use Rattle.pl_state.specs.Statics.{AreStaticAtoms};
 
-use crate::goal::{is_initial, is_met};
+use crate::goal::is_met;
 use crate::packed::Packed;
+use crate::statics::StaticAtoms;
 use pl_task::{Atom, GoalLiteral, List, Task};
 use std::alloc::{AllocError, Global};
 use std::marker::Model;
@@ -31,10 +34,11 @@ impl Model for GoalTest {
 }
 
 impl GoalTest {
-    /// The goal of the task. The only error is want of memory.
+    /// The goal of the task. It sorts the static atoms. The only error is want of memory.
     pub fn of(alloc: Global, task: &Task) -> Result<GoalTest, AllocError>
         ensures { IfOk result (IsDecidedGoal task.now) }
     {
+        let statics = StaticAtoms::of(alloc, task)?;
         let mut missed = 0;
         let mut literals = Vec::new(alloc);
         for literal in task.goal.as_slice() {
@@ -42,7 +46,7 @@ impl GoalTest {
                 literals.push(copied(alloc, literal)?)?;
                 continue;
             }
-            if is_met_initially(task, literal) {
+            if is_met_initially(&statics, task, literal) {
                 continue;
             }
             missed += 1;
@@ -91,16 +95,15 @@ fn is_fluent(task: &Task, predicate: u32) -> bool
     !task.predicates.as_slice()[predicate as usize].is_static
 }
 
-/// Whether the initial state meets the literal.
-fn is_met_initially(task: &Task, literal: &GoalLiteral) -> bool
+/// Whether the initial state meets the literal over a static predicate.
+fn is_met_initially(statics: &StaticAtoms, task: &Task, literal: &GoalLiteral) -> bool
+    requires statics { AreStaticAtoms task.now statics.now }
+    requires atom { IsAtomOf task.now.objects task.now.predicates literal.now.atom }
+    requires unchanging { is_fluent_in task.now literal.now.atom.predicate ≡ false }
     ensures { result ≡ is_goal_met (initial task.now) literal.now }
 {
     let atom = &literal.atom;
-    is_initial(
-        task.init.as_slice(),
-        atom.predicate,
-        atom.objects.as_slice(),
-    ) == literal.wanted
+    statics.has(task, atom.predicate, atom.objects.as_slice()) == literal.wanted
 }
 
 /// A copy of the literal.

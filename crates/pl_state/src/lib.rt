@@ -9,12 +9,14 @@ mod count;
 mod effect;
 mod goal;
 mod goal_test;
+mod hashing;
 pub mod laws;
 mod merging;
 mod packed;
 mod packing;
 mod parts;
 mod rows;
+mod statics;
 mod tabling;
 
 pub use applying::apply;
@@ -24,6 +26,7 @@ pub use packed::Packed;
 pub use packing::pack;
 pub use parts::true_rows;
 pub use rows::Rows;
+pub use statics::StaticAtoms;
 pub use tabling::{StateTables, tables};
 
 #[cfg(test)]

@@ -9,7 +9,8 @@ ghost use Rattle.pl_state.specs.Changing.{HasRow, row_under, is_named, rows_betw
 
 use crate::count::as_word;
 use crate::effect::{names, next_effect, write_row};
-use crate::rows::{Rows, first_from, row_at};
+use crate::rows::Rows;
+use pl_rows::bisect::{bisect, row_at};
 use pl_task::Lifted;
 use std::alloc::AllocError;
 
@@ -75,7 +76,7 @@ fn merge_row(
         new.old.items new.new.items) }
     ensures few { IfOk result (λ r. r.1 ≤ count + 1) }
 {
-    let place = first_from(flat, arity, count, row, done);
+    let place = bisect(flat, arity, count, row, false, done, count);
     copy_rows(new, flat, arity, count, done, place)?;
     let more = append_if(new, row, added)?;
     let next = behind_row(flat, arity, count, place, row);
@@ -98,6 +99,10 @@ fn copy_rows(
     ensures { OnOk result (new.new.items
         ≡ new.old.items ++ flat_map (λ row. row) (rows_between from to (rows_of arity _count flat.now))) }
 {
+    // Of a small part there is often none, and a copy of nothing takes a call.
+    if from == to {
+        return Ok(());
+    }
     new.extend_from_slice(&flat[from * arity..to * arity])?;
     Ok(())
 }

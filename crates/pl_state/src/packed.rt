@@ -4,9 +4,10 @@ ghost use Rattle.std.specs.Prelude.{◌≡◌, nat_eq};
 ghost use Rattle.std.specs.Cmp as order;
 ghost use Rattle.std.specs.Cmp.Lexicographic.{pointwise, nat_list_eq_equiv};
 ghost use Rattle.std.specs.Cmp.Rules.{hashing};
-ghost use Rattle.std.specs.Hash as fed;
 ghost use Rattle.std.proofs.Common.{rules};
+ghost use Rattle.pl_state.specs.Feeding.{fed_words};
 
+use crate::hashing::feed;
 use std::hash::{Hash, Hasher};
 use std::marker::Model;
 
@@ -60,12 +61,12 @@ impl Eq for Packed {
 }
 
 impl Hash for Packed {
-    ghost hash_input = { fed.slice fed.u32 };
+    ghost hash_input = { fed_words };
 
     ghost respects_eq = { Prim.search (hashing, rules) };
 
     #[inline]
     fn hash<H: Hasher>(&self, state: &mut H) {
-        self.words().hash(state);
+        feed(self.words(), state);
     }
 }

@@ -6,6 +6,7 @@ ghost use Rattle.pl_task.specs.States.{state_of, initial};
 ghost use Rattle.pl_task.specs.WellFormed.{IsAtomOf};
 ghost use Rattle.pl_state.specs.Layout.{part_of, IsLayoutOf};
 ghost use Rattle.pl_state.specs.StateOf.{state_in, IsStateOf};
+ghost use Rattle.pl_state.specs.Statics.{IsAtomTable};
 ghost use Rattle.pl_state.specs.Changing.{AppendsPart, IsAtomAt};
 
 use crate::count::as_word;
@@ -50,10 +51,23 @@ fn pack_part(
     ensures { OnOk result (AppendsPart (length _task.now.objects) (state_of atoms.now) predicate arity
         words.old.items words.new.items) }
 {
-    let (count, flat) = gathered(alloc, atoms, predicate, arity)?;
-    let table = Table::from_rows(alloc, arity, count, flat)?;
+    let table = atom_table(alloc, atoms, predicate, arity)?;
     push_part(words, &table)?;
     Ok(())
+}
+
+/// The table of the atoms of a predicate.
+pub fn atom_table(
+    alloc: Global,
+    atoms: &[Atom],
+    predicate: u32,
+    arity: u32,
+) -> Result<Table, AllocError>
+    requires { All (λ a. a.predicate ≡ predicate → length a.objects ≡ arity) atoms.now }
+    ensures { IfOk result (IsAtomTable (state_of atoms.now) predicate arity) }
+{
+    let (count, flat) = gathered(alloc, atoms, predicate, arity)?;
+    Table::from_rows(alloc, arity, count, flat)
 }
 
 /// The rows of the atoms of a predicate, in their order: how many, and their values one after another.

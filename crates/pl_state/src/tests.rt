@@ -7,7 +7,9 @@ ghost use Rattle.pl_state.specs.Layout.{atom_of};
 ghost use Rattle.pl_state.specs.StateOf.{IsStateOf};
 ghost use Rattle.pl_state.specs.Hops.{at_place, done, place, hop, finish, spread, IsHopGoal};
 
-use crate::{GoalTest, Packed, apply, goal_holds, holds, pack, tables, true_rows, unmet};
+use crate::{
+    GoalTest, Packed, StaticAtoms, apply, goal_holds, holds, pack, tables, true_rows, unmet,
+};
 use pl_task::{
     Atom, GoalLiteral, Lifted, List, ObjectDef, Parameter, PredicateDef, Schema, StepRef, Task,
     Term, TypeDef,
@@ -341,6 +343,23 @@ fn states_are_asked(rt: HostRuntime) -> Result<(), Fail> {
     assert!(rt; !goal.holds(&task, &far));
     assert_eq!(rt; goal.unmet(&task, &near), 0);
     assert!(rt; goal.holds(&task, &near));
+    Ok(())
+}
+
+#[test]
+fn static_atoms_are_found(rt: HostRuntime) -> Result<(), Fail> {
+    let alloc = rt.alloc();
+    let task = places(alloc, 4)?;
+    let state = packed(alloc, &task, &[(0, &[3])])?;
+    let statics = StaticAtoms::of(alloc, &task)?;
+    assert!(rt; is_atom(&task, 1, &[0, 1]));
+    assert!(rt; statics.holds(&task, &state, 1, &[0, 1]));
+    assert!(rt; is_atom(&task, 1, &[1, 0]));
+    assert!(rt; !statics.holds(&task, &state, 1, &[1, 0]));
+    assert!(rt; is_atom(&task, 0, &[3]));
+    assert!(rt; statics.holds(&task, &state, 0, &[3]));
+    assert!(rt; is_atom(&task, 2, &[]));
+    assert!(rt; !statics.holds(&task, &state, 2, &[]));
     Ok(())
 }
 
