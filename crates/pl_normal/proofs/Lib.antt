@@ -4,16 +4,17 @@ pub mod SlotLemmas
 pub mod Answering
 pub mod Ordered
 pub mod Listing
--- members of lists, and tests of all members
-mod Lists
--- sets of classes as bits
-mod Sets
--- the removal of ears
-mod Removing
+-- for the crates above: members of lists, sets of classes, and the parts of a normal form
+pub mod Lists
+pub mod Sets
+pub mod Forming
+-- for the crates above: the removal of ears
+pub mod Removing
 -- the functions that make a normal form
 mod Loops
 mod Merging
-mod Forming
 mod Tabling
+mod Numbers
+mod KindLemmas
 -- the tests
 mod Below

@@ -51,11 +51,11 @@ by_all P (y ∷ xs) x h c = elim (Contains-cons_cases y xs x c) [
   | inr r ↦ by_all P xs x h.1 r
 ]
 
-sorted_none : {K : Type 0} (c : K → K → Ordering) → IsStrictlySortedBy c []
+pub sorted_none : {K : Type 0} (c : K → K → Ordering) → IsStrictlySortedBy c []
 unfolding IsStrictlySortedBy
 sorted_none c = tt
 
-sorted_first : {K : Type 0} (c : K → K → Ordering) (x : K) (xs : List K) → ((y : K) → Contains xs y → c x y ≡ Less) → IsStrictlySortedBy c xs → IsStrictlySortedBy c (x ∷ xs)
+pub sorted_first : {K : Type 0} (c : K → K → Ordering) (x : K) (xs : List K) → ((y : K) → Contains xs y → c x y ≡ Less) → IsStrictlySortedBy c xs → IsStrictlySortedBy c (x ∷ xs)
 unfolding IsStrictlySortedBy
 sorted_first c x xs h s = (all_by (λ y. c x y ≡ Less) xs h, s)
 
@@ -87,7 +87,7 @@ sorted_blocks {K = K} c g (h ∷ hs) up each apart =
     later x y a (k, m, b) = apart h k x y (rises_head h hs up k m) a b
 
 -- a map that keeps the order
-sorted_map : {J K : Type 0} (d : J → J → Ordering) (c : K → K → Ordering) (f : J → K) (xs : List J) → ((x y : J) → Contains xs x → Contains xs y → c (f x) (f y) ≡ d x y) → IsStrictlySortedBy d xs → IsStrictlySortedBy c (map f xs)
+pub sorted_map : {J K : Type 0} (d : J → J → Ordering) (c : K → K → Ordering) (f : J → K) (xs : List J) → ((x y : J) → Contains xs x → Contains xs y → c (f x) (f y) ≡ d x y) → IsStrictlySortedBy d xs → IsStrictlySortedBy c (map f xs)
 sorted_map d c f [] keeps s = sorted_none c
 sorted_map {J = J} {K = K} d c f (x ∷ xs) keeps s =
     sorted_first c (f x) (map f xs) (λ y k. of_one y (Contains-from_map f xs y k)) (sorted_map d c f xs (λ u v p q. keeps u v (Contains-cons_rest x xs u p) (Contains-cons_rest x xs v q)) (sorted_rest d x xs s))
@@ -99,7 +99,7 @@ sorted_kept : {K : Type 0} (c : K → K → Ordering) (p : K → Bool) (x : K) (
 sorted_kept c p x xs true s t = sorted_first c x (filter p xs) (λ y k. first_below c x xs y s (Contains-from_filter p xs y k).0) t
 sorted_kept c p x xs false s t = t
 
-sorted_filter : {K : Type 0} (c : K → K → Ordering) (p : K → Bool) (xs : List K) → IsStrictlySortedBy c xs → IsStrictlySortedBy c (filter p xs)
+pub sorted_filter : {K : Type 0} (c : K → K → Ordering) (p : K → Bool) (xs : List K) → IsStrictlySortedBy c xs → IsStrictlySortedBy c (filter p xs)
 sorted_filter c p [] s = s
 sorted_filter c p (x ∷ xs) s = sorted_kept c p x xs (p x) s (sorted_filter c p xs (sorted_rest c x xs s))
 
@@ -177,12 +177,12 @@ place_cases p x xs false e h next = elim (Contains-cons_cases x xs p h) [
     one_more k = omega arith
 
 -- a member of the order stands at its place
-place_is : (p : ℕ) (xs : List ℕ) → Contains xs p → (place_of p xs < length xs) × (slice_index xs (place_of p xs) ≡ p)
+pub place_is : (p : ℕ) (xs : List ℕ) → Contains xs p → (place_of p xs < length xs) × (slice_index xs (place_of p xs) ≡ p)
 place_is p [] h = absurd (Contains-nil p h)
 place_is p (x ∷ xs) h = place_cases p x xs (x == p) refl h (place_is p xs)
 
 -- in an order without repeats no other place has it
-one_place : (xs : List ℕ) (i j : ℕ) → AllPairs (λ a b. a ≢ b) xs → i < length xs → j < length xs → get_or xs i 0 ≡ get_or xs j 0 → i ≡ j
+pub one_place : (xs : List ℕ) (i j : ℕ) → AllPairs (λ a b. a ≢ b) xs → i < length xs → j < length xs → get_or xs i 0 ≡ get_or xs j 0 → i ≡ j
 one_place xs i j once h k e = elim (three i j) [
   | inl low ↦ absurd (once i j 0 low k e)
   | inr (inl same) ↦ same
@@ -301,7 +301,7 @@ step_is_listed task step is =
 pub step_order_total : (task : Task) → IsTotalOrder (step_cmp task)
 step_order_total task = on_total (step_key task) nat_list_cmp_total
 
-ties_same : (xs ys : List ℕ) → row_cmp xs ys ≡ Equal → xs ≡ ys
+pub ties_same : (xs ys : List ℕ) → row_cmp xs ys ≡ Equal → xs ≡ ys
 ties_same xs ys h = (bytes_eq-Decides xs ys).0 (texts_ties xs ys ∙ ap is_eq h)
 
 head_same : (a b : ℕ) (xs ys : List ℕ) → (a ∷ xs) ≡ (b ∷ ys) → (a ≡ b) × (xs ≡ ys)
@@ -325,7 +325,7 @@ steps_tie_nowhere task a b p q h =
 
 -- ---- the list ascends
 
-block_ascends : (task : Task) (j : ℕ) (schema : Schema) → slice_get task.schemas j ≡ Some schema → IsStrictlySortedBy (step_cmp task) (steps_of task j)
+pub block_ascends : (task : Task) (j : ℕ) (schema : Schema) → slice_get task.schemas j ≡ Some schema → IsStrictlySortedBy (step_cmp task) (steps_of task j)
 unfolding step_key
 block_ascends task j schema at =
     sorted_map row_cmp (step_cmp task) (step_of j (order_of task j)) (tuples (length task.objects) (length (order_of task j)))
@@ -383,7 +383,7 @@ agreeing_args schema f g few agree =
     same_number_lists (args_under schema f) (args_under schema g) (one ∙ sym two)
     (λ p h. parameter_value schema f p ∙ (slot_agrees schema f g p (slot_at (parameter_slots schema) p) few (omega arith) refl agree ∙ sym (parameter_value schema g p)))
 
-few_parameters : (task : Task) (number : ℕ) (schema : Schema) → slice_get task.schemas number ≡ Some schema → length schema.parameters ≤ 64
+pub few_parameters : (task : Task) (number : ℕ) (schema : Schema) → slice_get task.schemas number ≡ Some schema → length schema.parameters ≤ 64
 few_parameters task number schema at =
     let is = task.schemas_ok.each number schema (slice_get_within task.schemas number schema at) in
     subst (λ (x : Schema). length x.parameters ≤ 64) (get_or_from_slice_get task.schemas number schema schema at) is.few_parameters
@@ -408,7 +408,7 @@ decided_first x y a b n = elim (less_or_greater x y n) [
     nat_greater u v h = grind arith
 
 -- rows that are decided by their fronts
-front_decides : (xs ys us vs : List ℕ) → length xs ≡ length ys → (xs ≡ ys → us ≡ vs) → row_cmp (xs ++ us) (ys ++ vs) ≡ row_cmp xs ys
+pub front_decides : (xs ys us vs : List ℕ) → length xs ≡ length ys → (xs ≡ ys → us ≡ vs) → row_cmp (xs ++ us) (ys ++ vs) ≡ row_cmp xs ys
 front_decides [] [] us vs e same = ap (λ zs. row_cmp zs vs) (same refl) ∙ tied_itself nat_list_cmp_total vs
 front_decides [] (y ∷ ys) us vs e same = absurd (omega arith)
 front_decides (x ∷ xs) [] us vs e same = absurd (omega arith)
@@ -423,7 +423,7 @@ class_row schema f (c ∷ cs) within =
     let first = class_arg schema f c (within c (Contains-cons_first c cs)) in
     let rest = class_row schema f cs (λ d m. within d (Contains-cons_rest c cs d m)) in cc
 
-key_parts : (schema : Schema) (f : Assignment) (others : List ℕ) → map (slice_index (args_under schema f)) (classes_in_order schema ++ others) ≡ map f (classes_in_order schema) ++ map (slice_index (args_under schema f)) others
+pub key_parts : (schema : Schema) (f : Assignment) (others : List ℕ) → map (slice_index (args_under schema f)) (classes_in_order schema ++ others) ≡ map f (classes_in_order schema) ++ map (slice_index (args_under schema f)) others
 key_parts schema f others =
     map-append (slice_index (args_under schema f)) (classes_in_order schema) others ∙ ap (λ xs. xs ++ map (slice_index (args_under schema f)) others) (class_row schema f (classes_in_order schema) (λ c m. m))
 

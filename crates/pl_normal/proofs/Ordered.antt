@@ -93,7 +93,7 @@ fold_bits (slot ∷ slots) set c =
       ])),
     )
 
-set_bits : (slots : List Slot) (c : ℕ) → (bit_at (class_set slots) c ≡ 1) ↔ Contains slots (Class c)
+pub set_bits : (slots : List Slot) (c : ℕ) → (bit_at (class_set slots) c ≡ 1) ↔ Contains slots (Class c)
 set_bits slots c = (
   (λ h. elim ((fold_bits slots 0 c).0 h) [
     | inl e ↦ absurd (no_bit c e)
@@ -117,7 +117,7 @@ past_default (x ∷ xs) zero h = absurd (omega arith)
 past_default (x ∷ xs) (suc p) h = past_default xs p (omega arith)
 
 -- the class of a term is unfixed
-term_unfixed : (schema : Schema) (t : Term) (c : ℕ) → slot_of (parameter_slots schema) t ≡ Class c → IsUnfixed schema c
+pub term_unfixed : (schema : Schema) (t : Term) (c : ℕ) → slot_of (parameter_slots schema) t ≡ Class c → IsUnfixed schema c
 term_unfixed schema (term.Object o) c h = absurd (fixed_class o c h)
 term_unfixed schema (term.Parameter p) c h = elim (below_or_not p (length schema.parameters)) [
   | inl below ↦ (p, below, h)
@@ -155,7 +155,7 @@ type_unfixed schema p (Class d) e c at below held h = elim (Contains-cons_cases 
     ]
 
 -- a class of an edge is unfixed
-class_unfixed : (schema : Schema) (e : Edge) (c : ℕ) → Contains (edges_of schema) e → bit_at e.classes c ≡ 1 → IsUnfixed schema c
+pub class_unfixed : (schema : Schema) (e : Edge) (c : ℕ) → Contains (edges_of schema) e → bit_at e.classes c ≡ 1 → IsUnfixed schema c
 unfolding edges_of type_edges atom_edges
 class_unfixed schema e c held h = elim (Contains-append_cases (type_edges (parameter_slots schema)) (atom_edges (parameter_slots schema) schema.condition) e held) [
   | inl first ↦ of_type (Contains-from_flat_map (λ q. type_edge q (slot_at (parameter_slots schema) q)) (range_with_len 0 (length (parameter_slots schema))) e first)
@@ -201,12 +201,12 @@ order_from plan c h = of_edge (Contains-from_flat_map (λ x. classes_of (slice_i
     of_edge (e, among, is) = (e, (in_classes (slice_index plan.edges e) c is).1)
 
 -- the set of an edge, by its number; past the last edge it is empty
-set_at : (edges : List Edge) (e c : ℕ) → bit_at (slice_index (sets_of edges) e) c ≡ 1 → (x : Edge) × Contains edges x × (bit_at x.classes c ≡ 1)
+pub set_at : (edges : List Edge) (e c : ℕ) → bit_at (slice_index (sets_of edges) e) c ≡ 1 → (x : Edge) × Contains edges x × (bit_at x.classes c ≡ 1)
 set_at [] e c h = absurd (no_bit c h)
 set_at (x ∷ edges) zero c h = (x, Contains-cons_first x edges, h)
 set_at (x ∷ edges) (suc e) c h = let (y, among, bit) = set_at edges e c h in (y, Contains-cons_rest x edges y among, bit)
 
-set_of : (edges : List Edge) (x : Edge) → Contains edges x → (e : ℕ) × (e < length (sets_of edges)) × (slice_index (sets_of edges) e ≡ x.classes)
+pub set_of : (edges : List Edge) (x : Edge) → Contains edges x → (e : ℕ) × (e < length (sets_of edges)) × (slice_index (sets_of edges) e ≡ x.classes)
 set_of [] x h = absurd (Contains-nil x h)
 set_of (y ∷ edges) x h = elim (Contains-cons_cases y edges x h) [
   | inl is ↦ (0, omega arith, ap (λ (z : Edge). z.classes) is)
@@ -251,7 +251,7 @@ unfixed_in_order schema c few (p, below, at) =
     order_contains (ear_removal (sets_of (edges_of schema))) e c (ear_removal-is (sets_of (edges_of schema))) (subst (λ xs. e < length xs) (sym same) low) (omega (arith, own.0, few))
     (ap (λ xs. bit_at (slice_index xs e) c) same ∙ (ap (λ x. bit_at x c) is ∙ (set_bits (Class c ∷ []) c).1 (Contains-cons_first (Class c) [])))
 
-classes_once : (schema : Schema) → AllPairs (λ a b. a ≢ b) (classes_in_order schema)
+pub classes_once : (schema : Schema) → AllPairs (λ a b. a ≢ b) (classes_in_order schema)
 unfolding classes_in_order
 classes_once schema = first_once _
 

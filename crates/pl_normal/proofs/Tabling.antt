@@ -1,15 +1,13 @@
--- The rows of the initial atoms of a predicate, laid out one after another, and the tables of all predicates.
-use Rattle.std.proofs.Common.{◌≡◌, ℕ, ◌+◌, ◌*◌, ◌<◌, ◌≤◌, suc, ◌==◌, ◌↔◌, ◌⊎◌, inl, inr, Bool, true, false, not, cond, List, [], ◌∷◌, ◌++◌, length, take, drop, get_or, Some, slice_get, refl, sym, ◌∙◌, ap, subst, arith, All, Contains, Result, Ok, Err, IfOk, eq-eqb, eqb-true, append_assoc, length-append}
-use Rattle.std.specs.List.{concat}
+-- The rows of the initial atoms of each predicate, as they are gathered, and the tables of all predicates.
+use Rattle.std.proofs.Common.{◌≡◌, ◌≢◌, Option, append-nil, ℕ, ◌+◌, ◌<◌, ◌≤◌, ◌==◌, ◌↔◌, ◌⊎◌, inl, inr, Bool, true, false, not, cond, List, [], ◌∷◌, ◌++◌, length, take, get_or, Some, slice_get, refl, sym, ◌∙◌, ap, subst, arith, Contains, Result, Ok, Err, IfOk, OnOk, eq-eqb, eqb-true, length-append, length-take-le}
 use Rattle.std.specs.declared.alloc.AllocError.{AllocError}
-use Rattle.std.proofs.Math.Seq.{take-append_seam, get_or-append_seam}
+use Rattle.std.proofs.Math.Seq.{get_or-append_seam}
 use Rattle.std.proofs.Math.ListN.{get_or-append}
 use Rattle.std.proofs.lemmas.Bool.{false≢true}
-use Rattle.std.proofs.lemmas.List.{take_all}
-use Rattle.std.proofs.lemmas.List.Elements.{All-head, All-tail, All-contains, Contains-get_or}
-use Rattle.std.proofs.lemmas.Option.{get_or_from_slice_get}
-use Rattle.pl_rows.specs.Rows.{Rows, AreRows, SameRows, rows_of}
+use Rattle.std.proofs.lemmas.Option.{get_or_from_slice_get, slice_get_within, slice_get_read}
+use Rattle.pl_rows.specs.Rows.{Rows, AreRows, SameRows}
 use Rattle.pl_rows.proofs.Canonical.{Contains-cons_cases, Contains-cons_first, Contains-nil}
+use Rattle.pl_hyper.proofs.Members.{same_or_not}
 use Rattle.pl_hyper.specs.Ears.{Removal, IsRemoval}
 use Rattle.pl_task.specs.declared.data.Atom.{Atom}
 use Rattle.pl_task.specs.declared.data.PredicateDef.{PredicateDef}
@@ -23,61 +21,114 @@ use Rattle.pl_normal.specs.Edges.{sets_of}
 use Rattle.pl_normal.specs.EarRemoval.{ear_removal}
 use Rattle.pl_normal.specs.NormalForm.{IsNormalForm}
 use Rattle.pl_normal.specs.NormalTasks.{AreFormsOf}
-use Rattle.pl_normal.specs.Tables.{row_atom, row_about, rows_about, IsAtomTable}
+use Rattle.pl_normal.specs.Tables.{row_atom, row_about, rows_about, gathered, AreGathered, AddsRow, IsStatic, IsAtomTable}
 use Rattle.pl_normal.proofs.Loops.{flat_more}
 use Rattle.pl_normal.proofs.Removing.{one_removal}
 
--- ---- rows one after another
+-- ---- the rows of the atoms so far
 
-concat_append : (xs ys : List (List ℕ)) → concat (xs ++ ys) ≡ concat xs ++ concat ys
-concat_append [] ys = refl
-concat_append (x ∷ xs) ys = ap (λ zs. x ++ zs) (concat_append xs ys) ∙ sym (append_assoc x (concat xs) (concat ys))
+row_here : (predicate : ℕ) (a : Atom) → predicate ≡ a.predicate → row_about predicate a ≡ a.objects ∷ []
+row_here predicate a e = ap (λ b. cond b (a.objects ∷ []) []) (eq-eqb a.predicate predicate (sym e))
 
-drop_front : (xs ys : List ℕ) → drop (length xs) (xs ++ ys) ≡ ys
-drop_front [] ys = refl
-drop_front (x ∷ xs) ys = drop_front xs ys
-
-concat_length : (arity : ℕ) (rows : List (List ℕ)) → All (λ row. length row ≡ arity) rows → length (concat rows) ≡ arity * length rows
-concat_length arity [] all = omega arith
-concat_length arity (r ∷ rows) all =
-    let first : length r ≡ arity = All-head (λ row. length row ≡ arity) r rows all in
-    let rest = concat_length arity rows (All-tail (λ row. length row ≡ arity) r rows all) in
-    length-append r (concat rows) ∙ (λ i. first i + rest i) ∙ more arity (length rows)
+row_apart : (predicate : ℕ) (a : Atom) → predicate ≢ a.predicate → row_about predicate a ≡ []
+row_apart predicate a apart = ap (λ b. cond b (a.objects ∷ []) []) (test (a.predicate == predicate) refl)
   where
-    more : (a n : ℕ) → a + a * n ≡ a * suc n
-    more a n = grind arith
+    test : (b : Bool) → (a.predicate == predicate) ≡ b → (a.predicate == predicate) ≡ false
+    test true e = absurd (apart (sym (eqb-true a.predicate predicate e)))
+    test false e = e
 
-concat_rows : (arity : ℕ) (rows : List (List ℕ)) → All (λ row. length row ≡ arity) rows → rows_of arity (length rows) (concat rows) ≡ rows
-concat_rows arity [] all = refl
-concat_rows arity (r ∷ rows) all =
-    let first : length r ≡ arity = All-head (λ row. length row ≡ arity) r rows all in
-    let front : take arity (r ++ concat rows) ≡ r = ap (λ n. take n (r ++ concat rows)) (sym first) ∙ take-append_seam r (concat rows) in
-    let rest : rows_of arity (length rows) (drop arity (r ++ concat rows)) ≡ rows =
-    ap (rows_of arity (length rows)) (ap (λ n. drop n (r ++ concat rows)) (sym first) ∙ drop_front r (concat rows)) ∙ concat_rows arity rows (All-tail (λ row. length row ≡ arity) r rows all) in
-    λ i. front i ∷ rest i
+more_here : (predicate i : ℕ) (atoms : List Atom) (a : Atom) → i < length atoms → a ≡ get_or atoms i a → predicate ≡ a.predicate → rows_about predicate (take i atoms) ++ a.objects ∷ [] ≡ rows_about predicate (take (i + 1) atoms)
+more_here predicate i atoms a h at e =
+    flat_more (row_about predicate) atoms i a (rows_about predicate (take i atoms)) (rows_about predicate (take i atoms) ++ a.objects ∷ []) h at refl (ap (λ rows. rows_about predicate (take i atoms) ++ rows) (sym (row_here predicate a e)))
 
-pub rows_more : (predicate : ℕ) (atoms : List Atom) (i : ℕ) (a : Atom) (count n : ℕ) → i < length atoms → a ≡ get_or atoms i a → count ≡ length (rows_about predicate (take i atoms)) → n ≡ length (row_about predicate a) → count + n ≡ length (rows_about predicate (take (i + 1) atoms))
-rows_more predicate atoms i a count n h at c e =
-    let more = ap length (flat_more (row_about predicate) atoms i a (rows_about predicate (take i atoms)) _ h at refl refl) in
-    let long = length-append (rows_about predicate (take i atoms)) (row_about predicate a) in omega arith
+more_apart : (predicate i : ℕ) (atoms : List Atom) (a : Atom) → i < length atoms → a ≡ get_or atoms i a → predicate ≢ a.predicate → rows_about predicate (take i atoms) ≡ rows_about predicate (take (i + 1) atoms)
+more_apart predicate i atoms a h at apart =
+    flat_more (row_about predicate) atoms i a (rows_about predicate (take i atoms)) (rows_about predicate (take i atoms)) h at refl
+    (sym (append-nil (rows_about predicate (take i atoms))) ∙ ap (λ rows. rows_about predicate (take i atoms) ++ rows) (sym (row_apart predicate a apart)))
 
-pub flats_more : (predicate : ℕ) (atoms : List Atom) (i : ℕ) (a : Atom) (flat after : List ℕ) → i < length atoms → a ≡ get_or atoms i a → flat ≡ concat (rows_about predicate (take i atoms)) → after ≡ flat ++ concat (row_about predicate a) → after ≡ concat (rows_about predicate (take (i + 1) atoms))
-flats_more predicate atoms i a flat after h at f e =
-    e ∙ (ap (λ xs. xs ++ concat (row_about predicate a)) f ∙ (sym (concat_append (rows_about predicate (take i atoms)) (row_about predicate a))
-    ∙ ap concat (flat_more (row_about predicate) atoms i a (rows_about predicate (take i atoms)) _ h at refl refl)))
+row_few : (predicate : ℕ) (a : Atom) (b : Bool) → length (cond b (a.objects ∷ []) []) ≤ 1
+row_few predicate a true = omega arith
+row_few predicate a false = omega arith
 
-pub whole : (arity count i predicate : ℕ) (atoms : List Atom) (flat : List ℕ) → length atoms ≤ i → All (λ row. length row ≡ arity) (rows_about predicate atoms) → count ≡ length (rows_about predicate (take i atoms)) → flat ≡ concat (rows_about predicate (take i atoms)) → length flat ≡ arity * count
-whole arity count i predicate atoms flat h all c f =
-    let same = ap (rows_about predicate) (take_all i atoms h) in
-    ap length (f ∙ ap concat same) ∙ (concat_length arity (rows_about predicate atoms) all ∙ ap (λ n. arity * n) (sym (c ∙ ap length same)))
+rows_few : (predicate : ℕ) (atoms : List Atom) → length (rows_about predicate atoms) ≤ length atoms
+rows_few predicate [] = omega arith
+rows_few predicate (a ∷ atoms) =
+    let rest = rows_few predicate atoms in
+    let one = row_few predicate a (a.predicate == predicate) in
+    let long = length-append (row_about predicate a) (rows_about predicate atoms) in
+    omega arith
 
-pub laid_out : (arity count i predicate : ℕ) (atoms : List Atom) (flat : List ℕ) → length atoms ≤ i → All (λ row. length row ≡ arity) (rows_about predicate atoms) → count ≡ length (rows_about predicate (take i atoms)) → flat ≡ concat (rows_about predicate (take i atoms)) → rows_of arity count flat ≡ rows_about predicate atoms
-laid_out arity count i predicate atoms flat h all c f =
-    let same = ap (rows_about predicate) (take_all i atoms h) in
-    (λ j. rows_of arity ((c ∙ ap length same) j) ((f ∙ ap concat same) j)) ∙ concat_rows arity (rows_about predicate atoms) all
+pub front_few : (predicate i : ℕ) (atoms : List Atom) → i < length atoms → length (rows_about predicate (take i atoms)) ≤ i
+front_few predicate i atoms h = let few = rows_few predicate (take i atoms) in let long = length-take-le i atoms (omega arith) in omega arith
 
-pub same_along : (result : Result Rows AllocError) (made wanted : List (List ℕ)) → made ≡ wanted → IfOk result (λ t. SameRows t.rows made) → IfOk result (λ t. SameRows t.rows wanted)
-same_along result made wanted e h = subst (λ rows. IfOk result (λ (t : Rows). SameRows t.rows rows)) e h
+-- ---- what is gathered
+
+some_same : (x y : PredicateDef) → Some x ≡ Some y → x ≡ y
+some_same x y q = cc
+
+rows_same : (x y : Rows) → x.arity ≡ y.arity → x.rows ≡ y.rows → x ≡ y
+rows_same x y a r = λ i. record { arity = a i; rows = r i }
+
+pub gathered_row : (predicates : List PredicateDef) (atoms : List Atom) (i : ℕ) (a : Atom) (old new : List Rows) → i < length atoms → a ≡ get_or atoms i a → AreGathered predicates (take i atoms) old → AddsRow old new a.predicate a.objects → AreGathered predicates (take (i + 1) atoms) new
+gathered_row predicates atoms i a old new h at are adds = record {
+  many = adds.many ∙ are.many;
+  each = λ p d b found static. elim (same_or_not p a.predicate) [
+    | inl same ↦
+        (let was : get_or old p b ≡ gathered d p (take i atoms) = are.each p d b found static in
+        rows_same (get_or new p b) (gathered d p (take (i + 1) atoms))
+        (ap (λ n. (get_or new n b).arity) same ∙ (adds.arity b ∙ (ap (λ n. (get_or old n b).arity) (sym same) ∙ ap (λ (r : Rows). r.arity) was)))
+        (ap (λ n. (get_or new n b).rows) same ∙ (adds.rows b ∙ (ap (λ n. (get_or old n b).rows ++ a.objects ∷ []) (sym same) ∙ (ap (λ (r : Rows). r.rows ++ a.objects ∷ []) was ∙ more_here p i atoms a h at same)))))
+    | inr apart ↦ adds.others p b apart ∙ (are.each p d b found static ∙ ap (λ rows. record { arity = d.arity; rows = rows }) (more_apart p i atoms a h at apart))
+  ];
+}
+
+pub gathered_none : (predicates : List PredicateDef) (atoms : List Atom) (i : ℕ) (a : Atom) (own : PredicateDef) (builders : List Rows) → i < length atoms → a ≡ get_or atoms i a → AreGathered predicates (take i atoms) builders → slice_get predicates a.predicate ≡ Some own → own.is_static ≡ false →
+    AreGathered predicates (take (i + 1) atoms) builders
+gathered_none predicates atoms i a own builders h at are mine fluent = record {
+  many = are.many;
+  each = λ p d b found static. are.each p d b found static ∙ ap (λ rows. record { arity = d.arity; rows = rows }) (more_apart p i atoms a h at (λ same. apart p d same found static));
+}
+  where
+    apart : (p : ℕ) (d : PredicateDef) → p ≡ a.predicate → slice_get predicates p ≡ Some d → d.is_static ≡ true → ⊥
+    apart p d same found static = false≢true (sym fluent ∙ (ap (λ (x : PredicateDef). x.is_static) (some_same own d (sym mine ∙ (ap (slice_get predicates) (sym same) ∙ found))) ∙ static))
+
+pub gathered_nothing : (predicates : List PredicateDef) (p : ℕ) (own : PredicateDef) (builders new : List Rows) (x : Rows) → p < length predicates → x ≡ record { arity = (get_or predicates p own).arity; rows = [] } → new ≡ builders ++ x ∷ [] → length builders ≡ p →
+    ((q : ℕ) (d : PredicateDef) (b : Rows) → q < p → slice_get predicates q ≡ Some d → get_or builders q b ≡ gathered d q []) → (q : ℕ) (d : PredicateDef) (b : Rows) → q < p + 1 → slice_get predicates q ≡ Some d → get_or new q b ≡ gathered d q []
+gathered_nothing predicates p own builders new x h is e many all q d b low found = elim (old_or_new q low) [
+  | inl old ↦ ap (λ xs. get_or xs q b) e ∙ (get_or-append builders (x ∷ []) b q (omega arith) ∙ all q d b old found)
+  | inr last ↦
+      (λ i. get_or (e i) ((last ∙ sym many) i) b)
+      ∙ (get_or-append_seam builders x [] b ∙ (is ∙ ap (λ (y : PredicateDef). record { arity = y.arity; rows = [] }) (ap (λ n. get_or predicates n own) (sym last) ∙ get_or_from_slice_get predicates q d own found)))
+]
+  where
+    old_or_new : (q : ℕ) → q < p + 1 → (q < p) ⊎ (q ≡ p)
+    old_or_new q low = grind arith
+
+pub gathered_nowhere : (predicates : List PredicateDef) (p : ℕ) (builders : List Rows) → p ≡ length predicates → length builders ≡ p → ((q : ℕ) (d : PredicateDef) (b : Rows) → q < p → slice_get predicates q ≡ Some d → get_or builders q b ≡ gathered d q []) → AreGathered predicates [] builders
+gathered_nowhere predicates p builders e many all = record {
+  many = many ∙ e;
+  each = λ q d b found static. all q d b (let within = slice_get_within predicates q d found in omega arith) found;
+}
+
+-- the definition that the code reads is that of the predicate
+pub definition_read : (predicates all : List PredicateDef) (p : ℕ) (d : PredicateDef) → all ≡ predicates → p < length predicates → d ≡ get_or all p d → slice_get predicates p ≡ Some d
+definition_read predicates all p d e h at = slice_get_read predicates (length predicates) p d refl h (at ∙ ap (λ xs. get_or xs p d) e)
+
+pub on_ok : {A E P Q : Type 0} (r : Result A E) → (P → Q) → OnOk r P → OnOk r Q
+on_ok (Ok x) f h = f h
+on_ok (Err x) f h = tt
+
+-- the definition of the predicate of an initial atom, and how wide its row is
+pub own_predicate : (task : Task) (i : ℕ) (a : Atom) → i < length task.init → a ≡ get_or task.init i a → (a.predicate < length task.predicates) × ((e : PredicateDef) → slice_get task.predicates a.predicate ≡ Some e → length a.objects ≡ e.arity)
+own_predicate task i a h at =
+    let own : IsAtomOf task.objects task.predicates a = subst (IsAtomOf task.objects task.predicates) (sym at) (task.init_ok.each i a h) in
+    (own.predicate, own.arity)
+
+pub width_here : (task : Task) (i : ℕ) (a : Atom) (d : PredicateDef) (builders : List Rows) (b : Rows) → i < length task.init → a ≡ get_or task.init i a → AreGathered task.predicates (take i task.init) builders → slice_get task.predicates a.predicate ≡ Some d → d.is_static ≡ true →
+    (length a.objects ≡ (get_or builders a.predicate b).arity) × (length (get_or builders a.predicate b).rows ≤ i)
+width_here task i a d builders b h at are found static =
+    let was : get_or builders a.predicate b ≡ gathered d a.predicate (take i task.init) = are.each a.predicate d b found static in
+    ((own_predicate task i a h at).1 d found ∙ sym (ap (λ (r : Rows). r.arity) was), subst (λ (r : Rows). length r.rows ≤ i) (sym was) (front_few a.predicate i task.init h))
 
 -- ---- which rows there are
 
@@ -103,21 +154,9 @@ about_atom predicate atoms row = (
     of_one : (a : Atom) × Contains atoms a × ((a.predicate ≡ predicate) × (a.objects ≡ row)) → Contains atoms (row_atom predicate row)
     of_one (a, among, is) = subst (Contains atoms) (λ i. record { predicate = is.0 i; objects = is.1 i }) among
 
--- the rows are as wide as the predicate's arity
-pub rows_wide : (task : Task) (predicate : ℕ) (d : PredicateDef) (atoms : List Atom) → atoms ≡ task.init → slice_get task.predicates predicate ≡ Some d → All (λ row. length row ≡ d.arity) (rows_about predicate atoms)
-rows_wide task predicate d atoms e at k x h = of_one (about_from predicate atoms (get_or (rows_about predicate atoms) k x) (Contains-get_or (rows_about predicate atoms) k x h))
-  where
-    of_one : (a : Atom) × Contains atoms a × ((a.predicate ≡ predicate) × (a.objects ≡ get_or (rows_about predicate atoms) k x)) → length (get_or (rows_about predicate atoms) k x) ≡ d.arity
-    of_one (a, among, is) =
-        let own = All-contains (IsAtomOf task.objects task.predicates) task.init a task.init_ok.each (subst (λ xs. Contains xs a) e among) in
-        sym (ap length is.1) ∙ own.arity d (ap (slice_get task.predicates) is.0 ∙ at)
-
 not_is : (a b : Bool) → a ≡ not b → a ≡ true → b ≡ false
 not_is a true h e = absurd (false≢true (sym h ∙ e))
 not_is a false h e = refl
-
-some_same : (x y : PredicateDef) → Some x ≡ Some y → x ≡ y
-some_same x y q = cc
 
 pub static_table_is : (task : Task) (predicate : ℕ) (d : PredicateDef) (atoms : List Atom) (table : Rows) → slice_get task.predicates predicate ≡ Some d → d.is_static ≡ true → atoms ≡ task.init → table.arity ≡ d.arity → AreRows d.arity table.rows →
     ((row : List ℕ) → Contains table.rows row ↔ Contains (rows_about predicate atoms) row) → (is_fluent task.schemas predicate ≡ false) × IsAtomTable task predicate table
@@ -132,6 +171,23 @@ static_table_is task predicate d atoms table at static e arity rows same = (
     );
   },
 )
+
+pub gathered_table : (task : Task) (predicate : ℕ) (d : PredicateDef) (builder table : Rows) → slice_get task.predicates predicate ≡ Some d → d.is_static ≡ true → builder ≡ gathered d predicate task.init → table.arity ≡ builder.arity → AreRows builder.arity table.rows → SameRows table.rows builder.rows →
+    (is_fluent task.schemas predicate ≡ false) × IsAtomTable task predicate table
+gathered_table task predicate d builder table at static is arity rows same =
+    static_table_is task predicate d task.init table at static refl (arity ∙ ap (λ (r : Rows). r.arity) is) (subst (λ (r : Rows). AreRows r.arity table.rows) is rows) (subst (λ (r : Rows). SameRows table.rows r.rows) is same)
+
+-- ---- the tables of all predicates
+
+pub statics_more : (task : Task) (tables new : List (Option Rows)) (n : ℕ) (x : Option Rows) → n ≡ length tables → new ≡ tables ++ x ∷ [] → IsStatic task n x → ((q : ℕ) (d : Option Rows) → q < length tables → IsStatic task q (get_or tables q d)) →
+    (q : ℕ) (d : Option Rows) → q < length new → IsStatic task q (get_or new q d)
+statics_more task tables new n x e a is all q d low = elim (old_or_new q (subst (λ m. q < m) (ap length a ∙ length-append tables (x ∷ [])) low)) [
+  | inl old ↦ subst (IsStatic task q) (sym (ap (λ xs. get_or xs q d) a ∙ get_or-append tables (x ∷ []) d q old)) (all q d old)
+  | inr last ↦ subst (IsStatic task q) (sym ((λ i. get_or (a i) (last i) d) ∙ get_or-append_seam tables x [] d)) (subst (λ m. IsStatic task m x) (e ∙ sym last) is)
+]
+  where
+    old_or_new : (k : ℕ) → k < length tables + 1 → (k < length tables) ⊎ (k ≡ length tables)
+    old_or_new k h = grind arith
 
 -- ---- the ears of edges
 

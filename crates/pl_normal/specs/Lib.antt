@@ -15,4 +15,5 @@ pub mod Laws
 pub mod Tables
 -- what the functions inside the crate promise each other
 pub mod Scope
+pub mod Kinds
 pub mod NormalTasks

@@ -7,6 +7,7 @@ use Rattle.pl_task.specs.declared.task.Task.{Task}
 use Rattle.pl_normal.specs.declared.form.NormalSchema.{NormalSchema}
 use Rattle.pl_normal.specs.NormalForm.{IsNormalForm}
 use Rattle.pl_normal.specs.Tables.{AreStatics}
+use Rattle.pl_normal.specs.Kinds.{AreKindTables}
 
 -- the forms are the normal forms of the first schemas, in their order
 pub record AreFormsOf (task : Task) (count : ℕ) (forms : List NormalSchema) : Type 0 where
@@ -16,6 +17,8 @@ pub record AreFormsOf (task : Task) (count : ℕ) (forms : List NormalSchema) : 
 abbrev pub AreNormalForms : Task → List NormalSchema → Type 0
 AreNormalForms task forms = AreFormsOf task (length task.schemas) forms
 
-pub record IsNormalTask (task : Task) (schemas : List NormalSchema) (statics : List (Option Rows)) : Type 0 where
+-- the normal forms of the schemas, the tables of static predicates, and those of the types of parameters
+pub record IsNormalTask (task : Task) (schemas : List NormalSchema) (statics : List (Option Rows)) (starts numbers : List ℕ) (tables : List Rows) : Type 0 where
   pub schemas_are : AreNormalForms task schemas
   pub statics_are : AreStatics task statics
+  pub kinds_are : AreKindTables task starts numbers tables

@@ -1,5 +1,5 @@
 -- The tables that no state changes: those of static predicates, and those of the types of parameters.
-use Rattle.std.specs.Prelude.{◌≡◌, ◌↔◌, ◌<◌, ◌==◌, ℕ, cond, true, false, IsTrue, List, [], ◌∷◌, length, Contains, Option, Some, None, slice_get}
+use Rattle.std.specs.Prelude.{◌≡◌, ◌≢◌, ◌++◌, ◌↔◌, ◌<◌, ◌==◌, ℕ, cond, true, false, IsTrue, List, [], ◌∷◌, length, Contains, Option, Some, None, slice_get}
 use Rattle.std.specs.List.{flat_map}
 use Rattle.std.proofs.Common.{get_or}
 use Rattle.pl_rows.specs.Rows.{Rows, AreRows}
@@ -34,6 +34,22 @@ row_about predicate a = cond (a.predicate == predicate) (a.objects ∷ []) []
 
 abbrev pub rows_about : ℕ → List Atom → List (List ℕ)
 rows_about predicate atoms = flat_map (row_about predicate) atoms
+
+-- the rows that are gathered for a predicate have its arity, and are those of the atoms so far, in their order
+abbrev pub gathered : PredicateDef → ℕ → List Atom → Rows
+gathered d predicate atoms = record { arity = d.arity; rows = rows_about predicate atoms }
+
+-- for each static predicate the rows of its atoms are gathered
+pub record AreGathered (predicates : List PredicateDef) (atoms : List Atom) (builders : List Rows) : Type 0 where
+  pub many : length builders ≡ length predicates
+  pub each : (p : ℕ) (d : PredicateDef) (b : Rows) → slice_get predicates p ≡ Some d → d.is_static ≡ true → get_or builders p b ≡ gathered d p atoms
+
+-- a row more at one place, and nothing else
+pub record AddsRow (old new : List Rows) (place : ℕ) (row : List ℕ) : Type 0 where
+  pub many : length new ≡ length old
+  pub arity : (b : Rows) → (get_or new place b).arity ≡ (get_or old place b).arity
+  pub rows : (b : Rows) → (get_or new place b).rows ≡ (get_or old place b).rows ++ row ∷ []
+  pub others : (k : ℕ) (b : Rows) → k ≢ place → get_or new k b ≡ get_or old k b
 
 -- the rows of the table are those of the objects that have one of the types
 pub record IsTypeTable (task : Task) (types : List ℕ) (table : Rows) : Type 0 where

@@ -9,7 +9,8 @@ ghost use Rattle.pl_normal.specs.Edges.{sets_of};
 ghost use Rattle.pl_normal.specs.EarRemoval.{ear_removal};
 ghost use Rattle.pl_normal.specs.NormalForm.{IsNormalForm};
 ghost use Rattle.pl_normal.specs.StepOrder.{step_cmp, read_in};
-ghost use Rattle.pl_normal.specs.Tables.{AreStatics, IsAtomTable};
+ghost use Rattle.pl_normal.specs.Guards.{types_at};
+ghost use Rattle.pl_normal.specs.Tables.{AreStatics, IsAtomTable, IsTypeTable};
 ghost use Rattle.pl_normal.specs.NormalTasks.{AreNormalForms};
 
 use crate::classes::{class_slots, fixings, parameter_classes, slot_objects};
@@ -17,6 +18,7 @@ use crate::edges::{edges, sets_of};
 use crate::filters::filters;
 use crate::form::{Edge, NormalSchema};
 use crate::guards::guards;
+use crate::kinds::{KindTables, kind_tables};
 use crate::order::parameter_order;
 use crate::tables::static_tables;
 use pl_hyper::{EarPlan, ears};
@@ -26,7 +28,7 @@ use std::alloc::{AllocError, Global};
 use std::cmp::Ordering;
 use std::marker::Model;
 
-/// A task with the normal form of each schema and the table of each static predicate.
+/// A task with the normal form of each schema, the table of each static predicate, and those of the types of parameters.
 ///
 /// Contracts see it as the task: it has nothing that the task leaves open.
 #[derive(Drop)]
@@ -34,6 +36,7 @@ pub struct NormalTask<'t> {
     task: &'t Task,
     schemas: Vec<NormalSchema>,
     statics: Vec<Option<Table>>,
+    kinds: KindTables,
 }
 
 impl<'t> Model for NormalTask<'t> {
@@ -44,7 +47,8 @@ impl<'t> Model for NormalTask<'t> {
 
     ghost view = { λ n. n.task.now };
 
-    ghost invariant = { λ n. IsNormalTask n.task.now n.schemas.items n.statics.items };
+    ghost invariant = { λ n. IsNormalTask n.task.now n.schemas.items n.statics.items
+        n.kinds.starts.items n.kinds.numbers.items n.kinds.tables.items };
 }
 
 /// The normal forms of all schemas of a task. The only error is want of memory.
@@ -52,11 +56,13 @@ pub fn normal<'t>(alloc: Global, task: &'t Task) -> Result<NormalTask<'t>, Alloc
     ensures { IfOk result (λ n. n ≡ task.now) }
 {
     let statics = static_tables(alloc, task)?;
+    let kinds = kind_tables(alloc, task)?;
     let schemas = normal_schemas(alloc, task, &statics)?;
     Ok(NormalTask {
         task,
         schemas,
         statics,
+        kinds,
     })
 }
 
@@ -148,6 +154,19 @@ impl<'t> NormalTask<'t> {
         ensures fluent { IfNone result (is_fluent self.now.schemas predicate ≡ true) }
     {
         self.statics[predicate as usize].as_ref()
+    }
+
+    /// The table of the objects that have at least one of the parameter's types. Parameters with the same types share one.
+    pub fn type_table(&self, schema: u32, parameter: u32) -> &Table
+        requires schema { schema < length self.now.schemas }
+        requires parameter { (s : SchemaOf) → slice_get self.now.schemas schema ≡ Some s → parameter < length s.parameters }
+        ensures { (s : SchemaOf) → slice_get self.now.schemas schema ≡ Some s →
+            IsTypeTable self.now (types_at s.parameters parameter) result.now }
+    {
+        let kinds = &self.kinds;
+        let first = kinds.starts[schema as usize];
+        let number = kinds.numbers[first + parameter as usize];
+        &kinds.tables[number]
     }
 
     /// How two steps of the task are ordered: by their schemas, and then by their objects in the schema's parameter order.

@@ -1,26 +1,88 @@
 //! What no state changes: the tables of static predicates.
 
-ghost use Rattle.std.specs.Prelude.{◌≡◌, ◌<◌, ◌≤◌, ◌↔◌, ◌++◌, ℕ, List, Some, length, All, Contains, IfOk, OnOk, IsTrue, slice_get};
-ghost use Rattle.std.specs.List.{concat};
-ghost use Rattle.pl_rows.specs.Rows.{AreRows};
+ghost use Rattle.std.specs.Prelude.{◌≡◌, ◌+◌, ◌<◌, ◌↔◌, [], Some, true, length, take, Contains, IfOk, OnOk, IsTrue, slice_get};
 ghost use Rattle.pl_task.specs.declared.data.PredicateDef.{PredicateDef as PredicateOf};
-ghost use Rattle.pl_normal.specs.Tables.{IsStatic, AreStatics, row_about, rows_about};
+ghost use Rattle.pl_normal.specs.Tables.{IsStatic, AreStatics, AddsRow, AreGathered, gathered};
+ghost use Rattle.pl_rows.specs.Rows.{Rows as RowsOf};
+ghost use Rattle.std.proofs.Common.{get_or};
 
-use pl_rows::Table;
+use pl_rows::{Table, TableBuilder};
 use pl_steps::Steps;
-use pl_task::{Atom, PredicateDef, Task};
+use pl_task::{PredicateDef, Task};
 use std::alloc::{AllocError, Global};
 use std::marker::Brand;
 use std::sync::ledger::{Blank, Ledger};
 
-/// For each predicate the table of its initial atoms, if it is static.
+/// For each predicate the table of its initial atoms, if it is static. It goes over the initial atoms once.
 pub fn static_tables(alloc: Global, task: &Task) -> Result<Vec<Option<Table>>, AllocError>
     ensures { IfOk result (λ v. AreStatics task.now v.items) }
 {
-    let predicates = task.predicates.as_slice();
-    let mut tables = Vec::with_capacity(alloc, predicates.len())?;
+    let mut builders = builders_of(alloc, task.predicates.as_slice())?;
+    gather(builders.as_mut_slice(), task)?;
+    tables_of(alloc, task, builders)
+}
+
+/// For each predicate no rows yet.
+fn builders_of(alloc: Global, predicates: &[PredicateDef]) -> Result<Vec<TableBuilder>, AllocError>
+    ensures { IfOk result (λ v. AreGathered predicates.now [] v.items) }
+{
+    let mut builders = Vec::with_capacity(alloc, predicates.len())?;
     for p in 0..predicates.len() {
-        tables.push(static_table(alloc, task, p as u32, &predicates[p])?)?;
+        builders.push(TableBuilder::new(alloc, predicates[p].arity))?;
+    }
+    Ok(builders)
+}
+
+/// Gathers the rows of all initial atoms of static predicates.
+fn gather(builders: &mut [TableBuilder], task: &Task) -> Result<(), AllocError>
+    requires { AreGathered task.now.predicates [] builders.old }
+    ensures { OnOk result (AreGathered task.now.predicates task.now.init builders.new) }
+{
+    let atoms = task.init.as_slice();
+    for i in 0..atoms.len() {
+        gather_atom(builders, task, i)?;
+    }
+    Ok(())
+}
+
+/// Gathers the row of an initial atom, if its predicate is static.
+fn gather_atom(builders: &mut [TableBuilder], task: &Task, i: usize) -> Result<(), AllocError>
+    requires within { i < length task.now.init }
+    requires few { i < usize.MAX }
+    requires before { AreGathered task.now.predicates (take i task.now.init) builders.old }
+    ensures { OnOk result (AreGathered task.now.predicates (take (i + 1) task.now.init) builders.new) }
+{
+    let atom = &task.init.as_slice()[i];
+    let place = atom.predicate as usize;
+    let definition = &task.predicates.as_slice()[place];
+    if !definition.is_static {
+        return Ok(());
+    }
+    add_row_at(builders, place, atom.objects.as_slice())
+}
+
+/// Appends a row to what is gathered at a place.
+fn add_row_at(builders: &mut [TableBuilder], place: usize, row: &[u32]) -> Result<(), AllocError>
+    requires place { place < length builders.old }
+    requires width { (b : RowsOf) → length row.now ≡ (get_or builders.old place b).arity }
+    requires few { (b : RowsOf) → length (get_or builders.old place b).rows < usize.MAX }
+    ensures { OnOk result (AddsRow builders.old builders.new place row.now) }
+{
+    builders[place].push(row)
+}
+
+/// The tables of the rows that were gathered.
+fn tables_of(
+    alloc: Global,
+    task: &Task,
+    builders: Vec<TableBuilder>,
+) -> Result<Vec<Option<Table>>, AllocError>
+    requires { AreGathered task.now.predicates task.now.init builders.items }
+    ensures { IfOk result (λ v. AreStatics task.now v.items) }
+{
+    let mut tables = Vec::with_capacity(alloc, builders.len())?;
+    for builder in builders {
+        tables.push(static_table(alloc, task, tables.len(), builder)?)?;
     }
     Ok(tables)
 }
@@ -29,50 +91,19 @@ pub fn static_tables(alloc: Global, task: &Task) -> Result<Vec<Option<Table>>, A
 fn static_table(
     alloc: Global,
     task: &Task,
-    predicate: u32,
-    definition: &PredicateDef,
+    predicate: usize,
+    builder: TableBuilder,
 ) -> Result<Option<Table>, AllocError>
-    requires { slice_get task.now.predicates predicate ≡ Some definition.now }
+    requires within { predicate < length task.now.predicates }
+    requires rows { (d : PredicateOf) → slice_get task.now.predicates predicate ≡ Some d → d.is_static ≡ true →
+        builder ≡ gathered d predicate task.now.init }
     ensures { IfOk result (IsStatic task.now predicate) }
 {
+    let definition = &task.predicates.as_slice()[predicate];
     if !definition.is_static {
         return Ok(None);
     }
-    let atoms = task.init.as_slice();
-    Ok(Some(atom_table(alloc, atoms, predicate, definition.arity)?))
-}
-
-/// The table of the atoms of a predicate.
-fn atom_table(
-    alloc: Global,
-    atoms: &[Atom],
-    predicate: u32,
-    arity: u32,
-) -> Result<Table, AllocError>
-    requires { All (λ row. length row ≡ arity) (rows_about predicate atoms.now) }
-    ensures arity { IfOk result (λ t. t.arity ≡ arity) }
-    ensures rows { IfOk result (λ t. AreRows arity t.rows) }
-    ensures same { IfOk result (λ t. (row : List ℕ) → Contains t.rows row ↔ Contains (rows_about predicate atoms.now) row) }
-{
-    let mut flat = Vec::new(alloc);
-    let mut count = 0;
-    for i in 0..atoms.len() {
-        count += add_row(&mut flat, &atoms[i], predicate)?;
-    }
-    Table::from_rows(alloc, arity, count, flat)
-}
-
-/// Appends the objects of the atom, if it is of the predicate, and gives the number of rows that were appended.
-fn add_row(flat: &mut Vec<u32>, atom: &Atom, predicate: u32) -> Result<usize, AllocError>
-    ensures few { IfOk result (λ n. n ≤ 1) }
-    ensures count { IfOk result (λ n. n ≡ length (row_about predicate atom.now)) }
-    ensures flat { OnOk result (flat.new.items ≡ flat.old.items ++ concat (row_about predicate atom.now)) }
-{
-    if atom.predicate != predicate {
-        return Ok(0);
-    }
-    flat.extend_from_slice(atom.objects.as_slice())?;
-    Ok(1)
+    Ok(Some(builder.into_table(alloc)?))
 }
 
 /// Whether the table has the row. What is asked once a task is not counted.

@@ -158,6 +158,92 @@ const CASES: &[Case] = &[
         local: &[2, 0, 0, 1],
         late: 0,
     },
+    // Filters of which no edge has both classes, of an atom and of an inequality.
+    Case {
+        parameters: 3,
+        condition: &[
+            Given::Atom(&[0, 1]),
+            Given::Atom(&[1, 2]),
+            Given::Not(&[0, 2]),
+            Given::Unequal(0, 2),
+            Given::Not(&[2, 1]),
+            Given::Unequal(1, 2),
+        ],
+        classes: &[0, 1, 2],
+        fixed: &[None, None, None],
+        core: &[4],
+        order: &[1, 2, 0],
+        local: &[4, 4],
+        late: 2,
+    },
+    // A class that is fixed by a chain takes no part: only the filter of the other class is one.
+    Case {
+        parameters: 3,
+        condition: &[
+            Given::Equal(0, 1),
+            Given::Equal(1, 105),
+            Given::Atom(&[0, 2]),
+            Given::Unequal(0, 2),
+            Given::Not(&[1]),
+            Given::Unequal(105, 106),
+            Given::Unequal(1, 107),
+        ],
+        classes: &[0, 0, 2],
+        fixed: &[Some(105), Some(105), None],
+        core: &[1],
+        order: &[2, 0, 1],
+        local: &[0],
+        late: 0,
+    },
+    // The same atom twice: its edges stay apart, and the first is an ear of the second.
+    Case {
+        parameters: 2,
+        condition: &[Given::Atom(&[0, 1]), Given::Atom(&[0, 1])],
+        classes: &[0, 1],
+        fixed: &[None, None],
+        core: &[3],
+        order: &[0, 1],
+        local: &[],
+        late: 0,
+    },
+    // Equalities of objects, and of a parameter with itself, join nothing.
+    Case {
+        parameters: 2,
+        condition: &[
+            Given::Equal(105, 105),
+            Given::Equal(105, 106),
+            Given::Equal(1, 1),
+        ],
+        classes: &[0, 1],
+        fixed: &[None, None],
+        core: &[1],
+        order: &[1, 0],
+        local: &[],
+        late: 0,
+    },
+    // As many parameters as a schema has at most.
+    Case {
+        parameters: 64,
+        condition: &[
+            Given::Atom(&[63, 0]),
+            Given::Equal(1, 62),
+            Given::Unequal(62, 63),
+        ],
+        classes: &[
+            0, 1, 2, 3, 4, 5, 6, 7, 8, 9, 10, 11, 12, 13, 14, 15, 16, 17, 18, 19, 20, 21, 22, 23,
+            24, 25, 26, 27, 28, 29, 30, 31, 32, 33, 34, 35, 36, 37, 38, 39, 40, 41, 42, 43, 44, 45,
+            46, 47, 48, 49, 50, 51, 52, 53, 54, 55, 56, 57, 58, 59, 60, 61, 1, 63,
+        ],
+        fixed: &[None; 64],
+        core: &[64],
+        order: &[
+            0, 63, 1, 61, 60, 59, 58, 57, 56, 55, 54, 53, 52, 51, 50, 49, 48, 47, 46, 45, 44, 43,
+            42, 41, 40, 39, 38, 37, 36, 35, 34, 33, 32, 31, 30, 29, 28, 27, 26, 25, 24, 23, 22, 21,
+            20, 19, 18, 17, 16, 15, 14, 13, 12, 11, 10, 9, 8, 7, 6, 5, 4, 3, 2, 62,
+        ],
+        local: &[],
+        late: 1,
+    },
     // No parameter.
     Case {
         parameters: 0,

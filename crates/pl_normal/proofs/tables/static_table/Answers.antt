@@ -1,11 +1,8 @@
-use Rattle.std.proofs.Common.{◌≡◌, true}
-use Rattle.pl_normal.proofs.Tabling.{rows_wide, static_table_is}
+use Rattle.pl_normal.proofs.Tabling.{definition_read, gathered_table}
 use Rattle.pl_normal.proofs.tables.static_table.Goals as goal
-
-pub atom_table-requires : goal.atom_table-requires
-atom_table-requires c = rows_wide c.args.task.now c.args.predicate c.args.definition.now c.as_slice-atoms.result.now c.as_slice-atoms.ensures c.requires
 
 pub returns : goal.returns
 returns c =
-    let static : c.args.definition.now.is_static ≡ true = c.if-not-definition.false in
-    static_table_is c.args.task.now c.args.predicate c.args.definition.now c.as_slice-atoms.result.now c.in_ok-atom_table.field-0 c.requires static c.as_slice-atoms.ensures c.in_ok-atom_table.ensures.arity c.in_ok-atom_table.ensures.rows c.in_ok-atom_table.ensures.same
+    let found = definition_read c.args.task.now.predicates c.as_slice.result.now c.args.predicate c.index-as_slice-predicate.result c.as_slice.ensures c.requires.within c.index-as_slice-predicate.is in
+    gathered_table c.args.task.now c.args.predicate c.index-as_slice-predicate.result c.args.builder c.in_ok-into_table.field-0 found c.if-not-definition.false (c.requires.rows c.index-as_slice-predicate.result found c.if-not-definition.false)
+    c.in_ok-into_table.ensures.arity c.in_ok-into_table.ensures.rows c.in_ok-into_table.ensures.same
