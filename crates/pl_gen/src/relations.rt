@@ -1,0 +1,110 @@
+//! The relations of the edges of a schema's query in a state.
+
+ghost use Rattle.std.specs.Prelude.{◌≡◌, ◌≤◌, ◌<◌, ◌↔◌, ℕ, All, length, map, IfOk, IsTrue};
+ghost use Rattle.pl_join.specs.Relation.{Assignment, Holds};
+ghost use Rattle.pl_normal.specs.NormalForm.{IsNormalForm};
+ghost use Rattle.pl_normal.specs.Query.{meets_sieve};
+ghost use Rattle.pl_gen.specs.Queries.{IsQuery, IsRelationAt, AreRelationsAt, IsSieveOf, IsSieveOver, state_asked};
+
+use crate::query::{Query, predicate_table, source_table};
+use pl_hyper::Ear;
+use pl_join::{Relation, filter_absent, filter_unequal, select};
+use pl_normal::{NormalSchema, Sieve};
+use pl_steps::Steps;
+use std::alloc::{AllocError, Global};
+use std::sync::ledger::Ledger;
+
+/// The relations of some edges, in their order.
+pub fn core_relations<L: Ledger>(
+    alloc: Global,
+    query: &Query<'_>,
+    form: &NormalSchema,
+    numbers: &[u32],
+    steps: &mut Steps<L>,
+) -> Result<Vec<Relation>, AllocError>
+    requires query { IsQuery query.now }
+    requires form { IsNormalForm query.now.normal.now query.now.schema.now form.now }
+    requires numbers { All (λ e. e < length form.now.edges) numbers.now }
+    ensures relations { IfOk result (λ v.
+        AreRelationsAt query.now.normal.now query.now.schema.now (state_asked query.now) numbers.now v.items) }
+    ensures rise { steps.old ≤ steps.new }
+{
+    let mut relations = Vec::with_capacity(alloc, numbers.len())?;
+    for number in numbers {
+        relations.push(edge_relation(alloc, query, form, *number, steps)?)?;
+    }
+    Ok(relations)
+}
+
+/// The relations of the edges of some ears, in their order.
+pub fn ear_relations<L: Ledger>(
+    alloc: Global,
+    query: &Query<'_>,
+    form: &NormalSchema,
+    ears: &[Ear],
+    steps: &mut Steps<L>,
+) -> Result<Vec<Relation>, AllocError>
+    requires query { IsQuery query.now }
+    requires form { IsNormalForm query.now.normal.now query.now.schema.now form.now }
+    requires ears { All (λ ear. ear.edge < length form.now.edges) ears.now }
+    ensures relations { IfOk result (λ v.
+        AreRelationsAt query.now.normal.now query.now.schema.now (state_asked query.now) (map (λ ear. ear.edge) ears.now) v.items) }
+    ensures rise { steps.old ≤ steps.new }
+{
+    let mut relations = Vec::with_capacity(alloc, ears.len())?;
+    for ear in ears {
+        relations.push(edge_relation(alloc, query, form, ear.edge, steps)?)?;
+    }
+    Ok(relations)
+}
+
+/// The relation of an edge: over its classes, the rows of its source that its slots and its local filters let pass.
+fn edge_relation<L: Ledger>(
+    alloc: Global,
+    query: &Query<'_>,
+    form: &NormalSchema,
+    number: u32,
+    steps: &mut Steps<L>,
+) -> Result<Relation, AllocError>
+    requires query { IsQuery query.now }
+    requires form { IsNormalForm query.now.normal.now query.now.schema.now form.now }
+    requires number { number < length form.now.edges }
+    ensures relation { IfOk result (IsRelationAt query.now.normal.now query.now.schema.now (state_asked query.now) number) }
+    ensures rise { steps.old ≤ steps.new }
+{
+    let edge = &form.edges.as_slice()[number as usize];
+    let table = source_table(query, edge.source);
+    let mut relation = select(alloc, table, edge.slots.as_slice(), steps)?;
+    let local = form.local.as_slice();
+    for placed in local {
+        if placed.edge == number {
+            relation = sieved(alloc, query, &relation, &placed.sieve, steps)?;
+        }
+    }
+    Ok(relation)
+}
+
+/// The rows of a relation that a filter over its classes lets pass.
+fn sieved<L: Ledger>(
+    alloc: Global,
+    query: &Query<'_>,
+    relation: &Relation,
+    sieve: &Sieve,
+    steps: &mut Steps<L>,
+) -> Result<Relation, AllocError>
+    requires query { IsQuery query.now }
+    requires sieve { IsSieveOf query.now.normal.now sieve.now }
+    requires over { IsSieveOver relation.now.classes sieve.now }
+    ensures classes { IfOk result (λ r. r.classes ≡ relation.now.classes) }
+    ensures rows { IfOk result (λ r. (f : Assignment) → Holds r f
+        ↔ (Holds relation.now f × IsTrue (meets_sieve (state_asked query.now) f sieve.now))) }
+    ensures rise { steps.old ≤ steps.new }
+{
+    match sieve {
+        Sieve::NotEqual(a, b) => filter_unequal(alloc, relation, *a, *b, steps),
+        Sieve::Absent(predicate, slots) => {
+            let table = predicate_table(query, *predicate);
+            filter_absent(alloc, relation, table, slots.as_slice(), steps)
+        }
+    }
+}

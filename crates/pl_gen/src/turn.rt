@@ -1,0 +1,95 @@
+//! The turn of one schema in a walk.
+
+ghost use Rattle.std.specs.Prelude.{◌≡◌, ◌≤◌, ◌<◌, length, slice_index, All};
+ghost use Rattle.pl_join.specs.Relation.{Agree, AreDistinct};
+ghost use Rattle.pl_normal.specs.Measures.{assigned};
+ghost use Rattle.pl_normal.specs.NormalForm.{IsNormalForm};
+ghost use Rattle.pl_gen.specs.Queries.{IsQuery};
+ghost use Rattle.pl_gen.specs.Turns.{HasNextRow, HasNextStep};
+ghost use Rattle.pl_gen.specs.Kept.{AreRowsFor, IsTurnOf};
+
+use crate::late::passes_all;
+use crate::query::Query;
+use pl_cursor::Cursor;
+use pl_normal::NormalSchema;
+use pl_steps::Steps;
+use std::sync::ledger::Ledger;
+
+/// What the schema whose turn it is has still to give.
+#[derive(Drop)]
+pub enum Turn<'p> {
+    /// No step.
+    Over,
+    /// The one step of a schema without edges.
+    Once,
+    /// The steps under the rows of a join that the late filters let pass.
+    Rows(Cursor<'p>),
+}
+
+/// Goes on to the next step of the turn, if there is one, and leaves the values of the schema's classes for it.
+pub fn next_values<L: Ledger>(
+    query: &Query<'_>,
+    form: &NormalSchema,
+    turn: &mut Turn<'_>,
+    values: &mut [u32],
+    steps: &mut Steps<L>,
+) -> bool
+    requires query { IsQuery query.now }
+    requires form { IsNormalForm query.now.normal.now query.now.schema.now form.now }
+    requires turn { IsTurnOf query.now.normal.now query.now.number turn.old }
+    requires values { length values.old ≡ 64 }
+    ensures next { HasNextStep query.now turn.old turn.new values.new result }
+    ensures turn { IsTurnOf query.now.normal.now query.now.number turn.new }
+    ensures values { length values.new ≡ 64 }
+    ensures rise { steps.old ≤ steps.new }
+{
+    match turn {
+        Turn::Over => false,
+        Turn::Once => {
+            *turn = Turn::Over;
+            true
+        }
+        Turn::Rows(cursor) => next_row(query, form, cursor, values, steps),
+    }
+}
+
+/// Goes on to the next row that the late filters let pass, if there is one, and writes its values.
+fn next_row<L: Ledger>(
+    query: &Query<'_>,
+    form: &NormalSchema,
+    cursor: &mut Cursor<'_>,
+    values: &mut [u32],
+    steps: &mut Steps<L>,
+) -> bool
+    requires query { IsQuery query.now }
+    requires form { IsNormalForm query.now.normal.now query.now.schema.now form.now }
+    requires rows { AreRowsFor query.now.normal.now query.now.number cursor.old }
+    requires values { length values.old ≡ 64 }
+    ensures next { HasNextRow query.now cursor.old.left cursor.new.left values.new result }
+    ensures rows { AreRowsFor query.now.normal.now query.now.number cursor.new }
+    ensures values { length values.new ≡ 64 }
+    ensures rise { steps.old ≤ steps.new }
+{
+    let late = form.late.as_slice();
+    let order = form.order.as_slice();
+    while let Some(row) = cursor.next(steps) {
+        write_values(values, &order[..row.len()], row);
+        if passes_all(query, late, values, steps) {
+            return true;
+        }
+    }
+    false
+}
+
+/// Writes the value of each class to the place with the class's number.
+fn write_values(values: &mut [u32], classes: &[u32], row: &[u32])
+    requires below { All (λ c. c < length values.old) classes.now }
+    requires distinct { AreDistinct classes.now }
+    requires row { length row.now ≡ length classes.now }
+    ensures same { length values.new ≡ length values.old }
+    ensures values { Agree classes.now (slice_index values.new) (assigned classes.now row.now) }
+{
+    for i in 0..classes.len() {
+        values[classes[i] as usize] = row[i];
+    }
+}
