@@ -9,13 +9,13 @@ use Rattle.pl_check.specs.declared.fault.InputFault.{InputFault}
 use Rattle.pl_check.specs.FirstFault.{AreRead, IsTextFaultOf, IsLaterTextFault, IsFormFault, IsFirstFault, text_in_file, faults_of, first_of}
 use Rattle.pl_check.specs.Laws.{FirstFaultIsOne}
 
-text-one : FaultIsOne → (file : FileRole) (bytes : List ℕ) (fault other : InputFault) →
+pub text-one : FaultIsOne → (file : FileRole) (bytes : List ℕ) (fault other : InputFault) →
     IsTextFaultOf file bytes fault →
     IsTextFaultOf file bytes other → fault ≡ other
 text-one one file bytes fault other h k =
     h.is ∙ ap (text_in_file file) (one bytes h.given k.given h.is_given k.is_given) ∙ sym k.is
 
-text-none : (file : FileRole) (bytes : List ℕ) (trees : Trees) (fault : InputFault) →
+pub text-none : (file : FileRole) (bytes : List ℕ) (trees : Trees) (fault : InputFault) →
     IsTextFaultOf file bytes fault →
     AreRead bytes trees → ⊥
 text-none file bytes trees fault h read = read.faultless h.given h.is_given.has

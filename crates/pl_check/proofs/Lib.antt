@@ -25,3 +25,4 @@ mod SectionRangeLemmas
 mod WeightLemmas
 mod WellFormedLemmas
 mod CheckingLemmas
+mod StatedLemmas

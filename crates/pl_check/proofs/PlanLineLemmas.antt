@@ -15,7 +15,9 @@ use Rattle.pl_task.specs.Instance.{Instance}
 use Rattle.pl_task.specs.States.{IsStep}
 use Rattle.pl_task.specs.WellFormed.{IsSchemaOf}
 use Rattle.pl_text.specs.declared.form.Form.{Form}
-use Rattle.pl_text.specs.Trees.{Tree, tree_of, trees_of, members}
+use Rattle.pl_text.specs.Laws.{FaultIsOne, FormsOrFault}
+use Rattle.pl_text.specs.TextFaults.{HasForms, GivesFault}
+use Rattle.pl_text.specs.Trees.{Tree, Trees, tree_of, trees_of, members}
 use Rattle.pl_text.proofs.TreeLaws.{members-trees_of}
 use Rattle.pl_text.proofs.TreePlaceLaws.{AreTreesOf-one}
 use Rattle.pl_text.specs.Words.{folded}
@@ -23,7 +25,9 @@ use Rattle.pl_check.specs.declared.fault.InputFault.{InputFault}
 use Rattle.pl_check.specs.declared.reading.Fault.{Fault}
 use Rattle.pl_check.specs.Elements.{trees, word_of, head_word, elements}
 use Rattle.pl_check.specs.FaultLists.{first}
-use Rattle.pl_check.specs.FirstFault.{AreRead, in_file}
+use Rattle.pl_check.specs.FirstFault.{AreRead, in_file, text_in_file}
+use Rattle.pl_check.specs.Laws.{LinesAreOne, PlanFaultIsOne, HasPlanFault, HasLines, FaultOrLines, FaultExcludesLines}
+use Rattle.pl_check.proofs.FirstLemmas.{text-one, text-none}
 use Rattle.pl_check.specs.declared.role.FileRole.TheVariants.{Plan}
 use Rattle.pl_check.specs.PlanLines.{numbers_named, objects_named, plan_faults, line_by, line_at, line_naming, line_of, AreLines, IsLineFault, IsPlanFault, IsStepText}
 
@@ -169,8 +173,7 @@ faultless [] h = refl
 faultless (f ∷ faults) h = cc
 
 -- a plan file has one list of lines
-pub lines_one : (bytes : List ℕ) (task : Task) (lines others : List PlanLine) → AreLines bytes task lines →
-    AreLines bytes task others → lines ≡ others
+pub lines_one : LinesAreOne
 lines_one bytes task lines others are are' =
     are.each ∙
     ap (λ ts. map (line_of (folded bytes) task) (members ts))
@@ -178,16 +181,64 @@ lines_one bytes task lines others are are' =
     sym are'.each
 
 -- a plan file with a fault has no lines
-pub lines_none : (bytes : List ℕ) (task : Task) (lines : List PlanLine) (fault : InputFault) →
-    IsPlanFault bytes fault →
-    AreLines bytes task lines → ⊥
-lines_none bytes task lines fault (inl text) are = are.read.faultless text.given text.is_given.has
-lines_none bytes task lines fault (inr form) are =
+pub lines_none : FaultExcludesLines
+lines_none bytes task fault lines (inl text) are = text-none Plan bytes are.trees fault text are.read
+lines_none bytes task fault lines (inr form) are =
     let same = AreTreesOf-one bytes form.trees are.trees form.read.are are.read.are in
     let none : first (plan_faults (members form.trees)) ≡ None =
     ap (λ ts. first (plan_faults (members ts))) same ∙ ap first are.no_fault
     in
     let some = form.is_first in cc
+
+-- a plan file has one first fault
+pub plan_fault_one : FaultIsOne → PlanFaultIsOne
+plan_fault_one one bytes fault other (inl h) (inl k) = text-one one Plan bytes fault other h k
+plan_fault_one one bytes fault other (inl h) (inr k) = absurd (text-none Plan bytes k.trees fault h k.read)
+plan_fault_one one bytes fault other (inr h) (inl k) = absurd (text-none Plan bytes h.trees other k h.read)
+plan_fault_one one bytes fault other (inr h) (inr k) =
+    let both : Some h.found ≡ Some k.found =
+    sym h.is_first ∙
+    ap (λ ts. first (plan_faults (members ts)))
+    (AreTreesOf-one bytes h.trees k.trees h.read.are k.read.are) ∙
+    k.is_first
+    in
+    let same : h.found ≡ k.found = cc in h.is ∙ ap (in_file Plan) same ∙ sym k.is
+
+-- the trees of a plan file have a first fault, or are its lines
+trees_read : (bytes : List ℕ) (task : Task) (trees : Trees) → AreRead bytes trees → (faults : List Fault) →
+    plan_faults (members trees) ≡ faults → HasPlanFault bytes ⊎ HasLines bytes task
+trees_read bytes task trees read [] are =
+    inr (
+      map (line_of (folded bytes) task) (members trees),
+      record {
+        trees = trees;
+        read = read;
+        no_fault = are;
+        each = refl;
+      },
+    )
+trees_read bytes task trees read (fault ∷ rest) are =
+    inl (
+      in_file Plan fault,
+      inr (record {
+        trees = trees;
+        read = read;
+        found = fault;
+        is_first = ap first are;
+        is = refl;
+      }),
+    )
+
+file_read : (bytes : List ℕ) (task : Task) → HasForms bytes ⊎ GivesFault bytes →
+    HasPlanFault bytes ⊎ HasLines bytes task
+file_read bytes task (inl has) =
+    trees_read bytes task has.1.0 (record { faultless = has.0; are = has.1.1 }) _ refl
+file_read bytes task (inr gives) =
+    inl (text_in_file Plan gives.0, inl (record { given = gives.0; is_given = gives.1; is = refl }))
+
+-- a plan file that may be read has a first fault or lines
+pub fault_or_lines : FormsOrFault → FaultOrLines
+fault_or_lines either_way bytes task short = file_read bytes task (either_way bytes short).0
 
 -- the forms of a plan file without a fault are its lines
 pub are_lines : (bytes : List ℕ) (task : Task) (list forms : List Form) (lines : List PlanLine) →

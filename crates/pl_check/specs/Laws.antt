@@ -1,5 +1,7 @@
--- Laws of faults: which of the faults of two files comes first, by file, by place, then by kind.
-use Rattle.std.specs.Prelude.{◌≡◌, ◌⊎◌, ◌<◌, ◌≤◌, ℕ, List, Option, Some, All, Contains}
+-- Laws of faults and tasks: which of the faults of two files comes first, by file, by place, then by kind; and that files
+-- have one first fault or one task, and plan files one first fault or one list of lines.
+use Rattle.std.specs.Prelude.{◌≡◌, ◌⊎◌, ◌<◌, ◌≤◌, ℕ, List, length, Option, Some, All, Contains}
+use Rattle.pl_text.specs.Limits.{most_bytes}
 use Rattle.pl_text.specs.Trees.{Trees, AreTreesOf}
 use Rattle.pl_check.specs.declared.role.FileRole.{FileRole}
 use Rattle.pl_check.specs.declared.role.FileRole.TheVariants.{Domain, Problem, Plan}
@@ -8,6 +10,7 @@ use Rattle.pl_check.specs.declared.fault.FaultKind.TheVariants as kind
 use Rattle.pl_check.specs.declared.fault.InputFault.{InputFault}
 use Rattle.pl_check.specs.FirstFault.{faults_of, first_of, IsFirstFault}
 use Rattle.pl_check.specs.PlanLines.{AreLines, IsPlanFault}
+use Rattle.pl_check.specs.Stated.{AreStated}
 use Rattle.pl_task.specs.declared.plan.PlanLine.{PlanLine}
 use Rattle.pl_task.specs.declared.task.Task.{Task}
 
@@ -60,13 +63,58 @@ FirstFaultIsOne =
     (domain problem : List ℕ) (fault other : InputFault) → IsFirstFault domain problem fault →
     IsFirstFault domain problem other → fault ≡ other
 
--- A plan file has one list of lines at most, and none where it has a fault.
+-- Two files state one task at most.
+abbrev pub TaskIsOne : Type 0
+TaskIsOne =
+    (domain problem : List ℕ) (task other : Task) → AreStated domain problem task →
+    AreStated domain problem other → task ≡ other
+
+-- Two files have a first fault.
+abbrev pub HaveFirstFault : List ℕ → List ℕ → Type 0
+HaveFirstFault domain problem = (fault : InputFault) × IsFirstFault domain problem fault
+
+-- Two files state a task.
+abbrev pub HaveTask : List ℕ → List ℕ → Type 0
+HaveTask domain problem = (task : Task) × AreStated domain problem task
+
+-- Two files that may be read have a first fault or state a task.
+abbrev pub FaultOrTask : Type 0
+FaultOrTask =
+    (domain problem : List ℕ) → length domain ≤ most_bytes → length problem ≤ most_bytes →
+    HaveFirstFault domain problem ⊎ HaveTask domain problem
+
+-- Two files with a first fault state no task.
+abbrev pub FaultExcludesTask : Type 0
+FaultExcludesTask =
+    (domain problem : List ℕ) (fault : InputFault) (task : Task) → IsFirstFault domain problem fault →
+    AreStated domain problem task → ⊥
+
+-- A plan file has one list of lines at most.
 abbrev pub LinesAreOne : Type 0
 LinesAreOne =
     (bytes : List ℕ) (task : Task) (lines others : List PlanLine) → AreLines bytes task lines →
     AreLines bytes task others → lines ≡ others
 
-abbrev pub LinesOrFault : Type 0
-LinesOrFault =
-    (bytes : List ℕ) (task : Task) (lines : List PlanLine) (fault : InputFault) → AreLines bytes task lines →
-    IsPlanFault bytes fault → ⊥
+-- A plan file has one first fault at most.
+abbrev pub PlanFaultIsOne : Type 0
+PlanFaultIsOne =
+    (bytes : List ℕ) (fault other : InputFault) → IsPlanFault bytes fault → IsPlanFault bytes other →
+    fault ≡ other
+
+-- A plan file has a first fault.
+abbrev pub HasPlanFault : List ℕ → Type 0
+HasPlanFault bytes = (fault : InputFault) × IsPlanFault bytes fault
+
+-- A plan file has lines, which name actions and objects of the task.
+abbrev pub HasLines : List ℕ → Task → Type 0
+HasLines bytes task = (lines : List PlanLine) × AreLines bytes task lines
+
+-- A plan file that may be read has a first fault or lines, whatever the task is.
+abbrev pub FaultOrLines : Type 0
+FaultOrLines = (bytes : List ℕ) (task : Task) → length bytes ≤ most_bytes → HasPlanFault bytes ⊎ HasLines bytes task
+
+-- A plan file with a first fault has no lines.
+abbrev pub FaultExcludesLines : Type 0
+FaultExcludesLines =
+    (bytes : List ℕ) (task : Task) (fault : InputFault) (lines : List PlanLine) → IsPlanFault bytes fault →
+    AreLines bytes task lines → ⊥

@@ -19,7 +19,8 @@ use std::alloc::Global;
 
 /// Checks a domain and a problem, and makes the task that they state.
 ///
-/// Each file has 16,777,216 bytes at most. The errors are the first fault of the two files, and want of memory.
+/// Each file has 16,777,216 bytes at most. The errors are the first fault of the two files, and want of
+/// memory.
 pub fn check(alloc: Global, domain: &[u8], problem: &[u8]) -> Result<Task, CheckEnd>
     requires domain { length domain.now ≤ 16777216 }
     requires problem { length problem.now ≤ 16777216 }

@@ -34,7 +34,8 @@ pub fn read_condition(
     literals: &mut Vec<Literal>,
 ) -> Result<(), ReadEnd>
     ensures { Reads (condition_faults (scope_in scope.now) equality (tree_of form.now))
-        (λ _. literals.new.items ≡ literals.old.items ++ lit.literals_of (scope_in scope.now) (tree_of form.now)) result }
+        (λ _. literals.new.items ≡ literals.old.items ++
+        lit.literals_of (scope_in scope.now) (tree_of form.now)) result }
 {
     match form {
         Form::Word(span) => Err(refusal(span.from, FaultKind::BadForm)),
@@ -174,7 +175,8 @@ pub fn read_precondition(
     literals: &mut Vec<Literal>,
 ) -> Result<(), ReadEnd>
     ensures { Reads (precondition_faults (scope_in scope.now) (tree_of form.now))
-        (λ _. literals.new.items ≡ literals.old.items ++ lit.literals_of (scope_in scope.now) (tree_of form.now)) result }
+        (λ _. literals.new.items ≡ literals.old.items ++
+        lit.literals_of (scope_in scope.now) (tree_of form.now)) result }
 {
     if budget_left(scope.text, form, MAX_LITERALS).is_some() {
         return read_condition(alloc, scope, true, form, literals);
@@ -199,7 +201,8 @@ fn check_own(scope: &Scope<'_, '_>, form: &Form) -> Result<(), ReadEnd>
 
 /// Checks a list of these elements itself, which begins at this place and should be a condition.
 fn check_list(scope: &Scope<'_, '_>, at: u32, elements: &[Form]) -> Result<(), ReadEnd>
-    ensures { Reads (condition_by (head_of (scope_in scope.now).text (trees elements.now)) (scope_in scope.now) true at (trees elements.now)) (λ _. ⊤) result }
+    ensures { Reads (condition_by (head_of (scope_in scope.now).text (trees elements.now))
+        (scope_in scope.now) true at (trees elements.now)) (λ _. ⊤) result }
 {
     let inner = rest(elements, 1);
     match kind_of_head(scope.text, elements) {

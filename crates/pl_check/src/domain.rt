@@ -40,9 +40,11 @@ pub fn read_domain_sections<'a>(
     requires few { length sections.now ≤ 16777216 }
     requires inside { All HasFew (trees sections.now) }
     ensures { Reads
-        (spec.sections_faults role.Domain text.now known.now (record { keys = []; actions = [] }) (trees sections.now))
+        (spec.sections_faults role.Domain text.now known.now (record { keys = []; actions = [] })
+        (trees sections.now))
         (λ schemas. schemas.items ≡
-        map (stated_schema text.now known.now) (sections_of text.now (codes ":action") (trees sections.now))) result }
+        map (stated_schema text.now known.now)
+        (sections_of text.now (codes ":action") (trees sections.now))) result }
 {
     let actions = action_names(alloc, text, sections).map_err(ReadEnd::Memory)?;
     read_sections(alloc, text, known, &actions, sections)
@@ -60,9 +62,11 @@ fn read_sections<'a>(
     requires names { actions.now ≡
         map (action.action_name text.now) (sections_of text.now (codes ":action") (trees sections.now)) }
     ensures { Reads
-        (spec.sections_faults role.Domain text.now known.now (record { keys = []; actions = [] }) (trees sections.now))
+        (spec.sections_faults role.Domain text.now known.now (record { keys = []; actions = [] })
+        (trees sections.now))
         (λ schemas. schemas.items ≡
-        map (stated_schema text.now known.now) (sections_of text.now (codes ":action") (trees sections.now))) result }
+        map (stated_schema text.now known.now)
+        (sections_of text.now (codes ":action") (trees sections.now))) result }
 {
     let mut schemas = Vec::new(alloc);
     let mut earlier: Vec<&'a [u8]> = Vec::new(alloc);
@@ -84,7 +88,8 @@ fn read_sections<'a>(
     Ok(schemas)
 }
 
-/// Reads a section after sections with these keys and this number of actions: its schema, where it is an action.
+/// Reads a section after sections with these keys and this number of actions: its schema, where it is an
+/// action.
 #[tactic(auto, using(crate::proofs::WalkLemmas::walks), unfolding(crate::specs::Sections::domain_section))]
 fn read_section<'a>(
     alloc: Global,
@@ -176,7 +181,8 @@ fn check_action_name<'a>(
     section: &Form,
 ) -> Result<(), ReadEnd>
     ensures { Reads
-        (fault_if (list_any (bytes_eq (action.action_name text.now (tree_of section.now))) (take number actions.now))
+        (fault_if (list_any (bytes_eq (action.action_name text.now (tree_of section.now)))
+        (take number actions.now))
         (action.first_place (drop 1 (elements_of (tree_of section.now)))) kind.Duplicate) (λ _. ⊤) result }
 {
     let forms = rest(parts(section), 1);

@@ -31,8 +31,10 @@ pub fn effect_of(alloc: Global, literals: Vec<Literal>) -> Result<Effect, AllocE
 
 /// Adds the atom of a literal to what an effect deletes or adds.
 fn add_effect(effect: &mut Effect, literal: Literal) -> Result<(), AllocError>
-    ensures delete { OnOk result (effect.new.delete.items ≡ effect.old.delete.items ++ filter_map lit.deleted (literal ∷ [])) }
-    ensures add { OnOk result (effect.new.add.items ≡ effect.old.add.items ++ filter_map lit.added (literal ∷ [])) }
+    ensures delete { OnOk result (effect.new.delete.items ≡ effect.old.delete.items ++
+        filter_map lit.deleted (literal ∷ [])) }
+    ensures add { OnOk result (effect.new.add.items ≡ effect.old.add.items ++
+        filter_map lit.added (literal ∷ [])) }
 {
     match literal {
         Literal::Atom(atom) => effect.add.push(atom)?,

@@ -57,8 +57,10 @@ pub fn read_problem<'a>(
 ) -> Result<Stated, ReadEnd>
     requires text { length text.now ≤ 16777216 }
     ensures { Reads (spec.file_faults role_of.Problem text.now known.now (length text.now) (trees forms.now))
-        (λ stated. (stated.init.items ≡ map (ground_atom (problem_scope text.now known.now)) (all_after text.now (codes ":init") (sections_of_file (trees forms.now)))) ×
-        (stated.goal.items ≡ flat_map (literals_of (problem_scope text.now known.now)) (all_after text.now (codes ":goal") (sections_of_file (trees forms.now))))) result }
+        (λ stated. (stated.init.items ≡ map (ground_atom (problem_scope text.now known.now))
+        (all_after text.now (codes ":init") (sections_of_file (trees forms.now)))) ×
+        (stated.goal.items ≡ flat_map (literals_of (problem_scope text.now known.now))
+        (all_after text.now (codes ":goal") (sections_of_file (trees forms.now))))) result }
 {
     let sections = match read_file(text, FileRole::Problem, forms) {
         Ok(sections) => sections,

@@ -221,7 +221,8 @@ fn add_group<'a>(
     numbers: &[u32],
 ) -> Result<(), AllocError>
     ensures { OnOk result
-        (map numbered_in items.new.items ≡ map numbered_in items.old.items ++ grouped (texts names.now) numbers.now) }
+        (map numbered_in items.new.items ≡ map numbered_in items.old.items ++
+        grouped (texts names.now) numbers.now) }
 {
     for name in names {
         items.push(TypedItem {

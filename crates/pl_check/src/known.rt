@@ -87,7 +87,8 @@ pub fn collect<'a>(
 ) -> Result<Known<'a>, AllocError>
     requires domain { All HasFew (trees domain_sections.now) }
     requires problem { All HasFew (trees problem_sections.now) }
-    ensures { IfOk result (λ known. known ≡ spec.known_of domain.now (trees domain_sections.now) problem.now (trees problem_sections.now)) }
+    ensures { IfOk result (λ known. known ≡
+        spec.known_of domain.now (trees domain_sections.now) problem.now (trees problem_sections.now)) }
 {
     let types = collect_types(
         alloc,
@@ -143,7 +144,8 @@ fn collect_types<'a>(
     forms: &[Form],
 ) -> Result<Appearances<'a>, AllocError>
     requires { length forms.now ≤ 16777216 }
-    ensures { IfOk result (λ types. types ≡ codes "object" ∷ filter kinds.is_name (map (word_of text.now) (trees forms.now))) }
+    ensures { IfOk result (λ types. types ≡
+        codes "object" ∷ filter kinds.is_name (map (word_of text.now) (trees forms.now))) }
 {
     let mut names: Vec<&'a [u8]> = Vec::new(alloc);
     names.push(b"object")?;
@@ -166,7 +168,8 @@ fn collect_objects<'a>(
 ) -> Result<Appearances<'a>, AllocError>
     requires constants { length constants.now ≤ 16777216 }
     requires objects { length objects.now ≤ 16777216 }
-    ensures { IfOk result (λ met. met ≡ item_names domain.now (trees constants.now) ++ item_names problem.now (trees objects.now)) }
+    ensures { IfOk result (λ met. met ≡ item_names domain.now (trees constants.now) ++
+        item_names problem.now (trees objects.now)) }
 {
     let mut names = Vec::new(alloc);
     add_item_names(domain, constants, &mut names)?;
@@ -182,8 +185,10 @@ fn collect_predicates<'a>(
 ) -> Result<(Names<'a>, Vec<u32>), AllocError>
     requires few { length forms.now ≤ 16777216 }
     requires inside { All HasFew (trees forms.now) }
-    ensures names { IfOk result (λ both. both.0 ≡ map (declared.declared_name text.now) (declared.declarations text.now (trees forms.now))) }
-    ensures arities { IfOk result (λ both. both.1.items ≡ map (declared.declared_arity text.now) (declared.declarations text.now (trees forms.now))) }
+    ensures names { IfOk result (λ both. both.0 ≡
+        map (declared.declared_name text.now) (declared.declarations text.now (trees forms.now))) }
+    ensures arities { IfOk result (λ both. both.1.items ≡
+        map (declared.declared_arity text.now) (declared.declarations text.now (trees forms.now))) }
 {
     let mut names = Vec::new(alloc);
     let mut arities = Vec::new(alloc);

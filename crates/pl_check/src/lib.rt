@@ -1,9 +1,9 @@
-//! The checker: from a domain and a problem to the task that they state, or to their first fault; and the lines of a
-//! plan, or the one step that a text is.
+//! The checker: from a domain and a problem to the task that they state, or to their first fault; and the
+//! lines of a plan, or the one step that a text is.
 //!
-//! What a fault is and which is the first stands in `specs/`, a file for each kind of form; `Known` says what is
-//! collected before any test, `FirstFault` which fault is given, `Stated` which task two files without a fault state,
-//! and `PlanLines` what the lines of a plan name.
+//! What a fault is and which is the first stands in `specs/`, a file for each kind of form; `Known` says what
+//! is collected before any test, `FirstFault` which fault is given, `Stated` which task two files without a
+//! fault state, and `PlanLines` what the lines of a plan name.
 #![tactic(auto)]
 
 mod actions;
@@ -38,3 +38,6 @@ pub use checking::check;
 pub use fault::{CheckEnd, FaultKind, InputFault, StepEnd};
 pub use plan_lines::{read_plan, read_step};
 pub use role::FileRole;
+
+#[cfg(test)]
+mod tests;

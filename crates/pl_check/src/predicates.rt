@@ -30,7 +30,8 @@ pub fn check_predicates<'a>(
 ) -> Result<(), ReadEnd>
     requires few { length forms.now ≤ 16777216 }
     requires inside { All HasFew (trees forms.now) }
-    ensures { Reads (spec.predicates_faults text.now (first_appearances types.now) [] (trees forms.now)) (λ _. ⊤) result }
+    ensures { Reads (spec.predicates_faults text.now (first_appearances types.now) [] (trees forms.now))
+        (λ _. ⊤) result }
 {
     match declared_names(alloc, text, forms) {
         Ok(names) => check_declarations(alloc, text, types, &names, forms),
@@ -47,7 +48,8 @@ fn check_declarations<'a>(
     forms: &[Form],
 ) -> Result<(), ReadEnd>
     requires { names.now ≡ map (spec.declared_name text.now) (spec.declarations text.now (trees forms.now)) }
-    ensures { Reads (spec.predicates_faults text.now (first_appearances types.now) [] (trees forms.now)) (λ _. ⊤) result }
+    ensures { Reads (spec.predicates_faults text.now (first_appearances types.now) [] (trees forms.now))
+        (λ _. ⊤) result }
 {
     for (i, form) in forms.iter().enumerate() {
         match check_declaration(alloc, text, types, names, i, form) {
@@ -65,7 +67,8 @@ fn declared_names<'a>(
     forms: &[Form],
 ) -> Result<Names<'a>, AllocError>
     requires { length forms.now ≤ 16777216 }
-    ensures { IfOk result (λ names. names ≡ map (spec.declared_name text.now) (spec.declarations text.now (trees forms.now))) }
+    ensures { IfOk result (λ names. names ≡
+        map (spec.declared_name text.now) (spec.declarations text.now (trees forms.now))) }
 {
     let mut names = Vec::new(alloc);
     for form in forms {
@@ -94,7 +97,8 @@ fn check_declaration<'a>(
     number: usize,
     form: &Form,
 ) -> Result<(), ReadEnd>
-    ensures reads { Reads (spec.declaration_faults text.now (first_appearances types.now) (take number names.now) (tree_of form.now)) (λ _. ⊤) result }
+    ensures reads { Reads (spec.declaration_faults text.now (first_appearances types.now)
+        (take number names.now) (tree_of form.now)) (λ _. ⊤) result }
     ensures declared { OnOk result (IsTrue (spec.is_declaration text.now (tree_of form.now))) }
 {
     check_declared_name(text, names, number, form)?;

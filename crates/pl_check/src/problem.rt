@@ -45,9 +45,12 @@ pub fn read_problem_sections<'a>(
     known: &Known<'a>,
     sections: &[Form],
 ) -> Result<Stated, ReadEnd>
-    ensures { Reads (spec.sections_faults role.Problem text.now known.now (record { keys = []; actions = [] }) (trees sections.now))
-        (λ stated. (stated.init.items ≡ map (ground_atom (spec.problem_scope text.now known.now)) (all_after text.now (codes ":init") (trees sections.now))) ×
-        (stated.goal.items ≡ flat_map (literals_of (spec.problem_scope text.now known.now)) (all_after text.now (codes ":goal") (trees sections.now)))) result }
+    ensures { Reads (spec.sections_faults role.Problem text.now known.now (record { keys = []; actions = [] })
+        (trees sections.now))
+        (λ stated. (stated.init.items ≡ map (ground_atom (spec.problem_scope text.now known.now))
+        (all_after text.now (codes ":init") (trees sections.now))) ×
+        (stated.goal.items ≡ flat_map (literals_of (spec.problem_scope text.now known.now))
+        (all_after text.now (codes ":goal") (trees sections.now)))) result }
 {
     let parameters = no_names(alloc)?;
     let scope = Scope {
@@ -87,9 +90,11 @@ fn read_one<'a>(
     stated: &mut Stated,
 ) -> Result<&'a [u8], ReadEnd>
     ensures { Reads
-        (or_inside (spec.section_own scope.now.text.now role.Problem (texts earlier.now) (tree_of section.now))
+        (or_inside (spec.section_own scope.now.text.now role.Problem (texts earlier.now)
+        (tree_of section.now))
         (spec.problem_inside (scope_in scope.now)
-        (head_word scope.now.text.now (elements_of (tree_of section.now))) (drop 1 (elements_of (tree_of section.now)))))
+        (head_word scope.now.text.now (elements_of (tree_of section.now)))
+        (drop 1 (elements_of (tree_of section.now)))))
         (λ key. (key.now ≡ head_word scope.now.text.now (elements_of (tree_of section.now))) ×
         (spec.is_action scope.now.text.now (tree_of section.now) ≡ false) ×
         (stated.new.init.items ≡ stated.old.init.items ++
@@ -97,7 +102,8 @@ fn read_one<'a>(
         (map (ground_atom (scope_in scope.now)) (drop 1 (elements_of (tree_of section.now)))) []) ×
         (stated.new.goal.items ≡ stated.old.goal.items ++
         cond (bytes_eq (head_word scope.now.text.now (elements_of (tree_of section.now))) (codes ":goal"))
-        (flat_map (literals_of (scope_in scope.now)) (drop 1 (elements_of (tree_of section.now)))) [])) result }
+        (flat_map (literals_of (scope_in scope.now)) (drop 1 (elements_of (tree_of section.now))))
+        [])) result }
 {
     let key = read_section_key(scope.text, FileRole::Problem, earlier, section)?;
     read_section(alloc, scope, key, rest(parts(section), 1), stated)?;
@@ -115,9 +121,11 @@ fn read_section(
 ) -> Result<(), ReadEnd>
     ensures { Reads (spec.problem_inside (scope_in scope.now) key.now (trees forms.now))
         (λ _. (stated.new.init.items ≡ stated.old.init.items ++
-        cond (bytes_eq key.now (codes ":init")) (map (ground_atom (scope_in scope.now)) (trees forms.now)) []) ×
+        cond (bytes_eq key.now (codes ":init")) (map (ground_atom (scope_in scope.now)) (trees forms.now))
+        []) ×
         (stated.new.goal.items ≡ stated.old.goal.items ++
-        cond (bytes_eq key.now (codes ":goal")) (flat_map (literals_of (scope_in scope.now)) (trees forms.now)) [])) result }
+        cond (bytes_eq key.now (codes ":goal"))
+        (flat_map (literals_of (scope_in scope.now)) (trees forms.now)) [])) result }
 {
     if key == b":requirements".as_slice() {
         return check_requirements(forms);
@@ -148,7 +156,8 @@ fn read_init(
     atoms: &mut Vec<Atom>,
 ) -> Result<(), ReadEnd>
     ensures { Reads (flat_map (basic_faults (scope_in scope.now) false) (trees forms.now))
-        (λ _. atoms.new.items ≡ atoms.old.items ++ map (ground_atom (scope_in scope.now)) (trees forms.now)) result }
+        (λ _. atoms.new.items ≡ atoms.old.items ++
+        map (ground_atom (scope_in scope.now)) (trees forms.now)) result }
 {
     for form in forms {
         push(atoms, read_ground(alloc, scope, form)?)?;
@@ -186,7 +195,8 @@ fn read_goal(
     literals: &mut Vec<Literal>,
 ) -> Result<(), ReadEnd>
     ensures { Reads (flat_map (effect_faults (scope_in scope.now)) (trees forms.now))
-        (λ _. literals.new.items ≡ literals.old.items ++ flat_map (literals_of (scope_in scope.now)) (trees forms.now)) result }
+        (λ _. literals.new.items ≡ literals.old.items ++
+        flat_map (literals_of (scope_in scope.now)) (trees forms.now)) result }
 {
     for form in forms {
         read_condition(alloc, scope, false, form, literals)?;

@@ -1,4 +1,5 @@
-//! The words and the lists of a file. Words are read from its copy in small letters, so that none is folded twice.
+//! The words and the lists of a file. Words are read from its copy in small letters, so that none is folded
+//! twice.
 
 ghost use Rattle.std.specs.Prelude.{◌≡◌, slice_range, drop};
 ghost use Rattle.pl_text.specs.Trees.{tree_of};

@@ -16,7 +16,8 @@ pub fn fluent_marks(
     count: usize,
 ) -> Result<Vec<bool>, AllocError>
     ensures length { IfOk result (λ marks. length marks.items ≡ count) }
-    ensures marks { IfOk result (λ marks. (p : ℕ) → p < count → slice_index_or marks.items p false ≡ is_fluent schemas.now p) }
+    ensures marks { IfOk result (λ marks. (p : ℕ) → p < count → slice_index_or marks.items p false ≡
+        is_fluent schemas.now p) }
 {
     let mut marks = vec![in alloc; false; count]?;
     let fluent = marks.as_mut_slice();
@@ -30,7 +31,8 @@ pub fn fluent_marks(
 /// Marks the predicates of these atoms.
 fn mark(fluent: &mut [bool], atoms: &[Lifted])
     ensures { (p : ℕ) → p < length fluent.old →
-        slice_index_or fluent.new p false ≡ (slice_index_or fluent.old p false || list_any (is_of_predicate p) atoms.now) }
+        slice_index_or fluent.new p false ≡
+        (slice_index_or fluent.old p false || list_any (is_of_predicate p) atoms.now) }
 {
     for atom in atoms {
         let predicate = atom.predicate as usize;

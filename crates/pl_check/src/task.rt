@@ -25,7 +25,8 @@ use pl_text::Form;
 use std::alloc::{AllocError, Global};
 use std::mem;
 
-/// The task that the sections of a domain and of a problem state, with the schemas and what else they were read to.
+/// The task that the sections of a domain and of a problem state, with the schemas and what else they were
+/// read to.
 pub fn task_of<'a>(
     alloc: Global,
     known: &Known<'a>,
@@ -37,17 +38,22 @@ pub fn task_of<'a>(
     stated: Stated,
 ) -> Result<Task, AllocError>
     requires schemas { schemas.items ≡
-        map (spec.stated_schema domain.now known.now) (sections_of domain.now (codes ":action") (trees domain_sections.now)) }
+        map (spec.stated_schema domain.now known.now)
+        (sections_of domain.now (codes ":action") (trees domain_sections.now)) }
     requires init { stated.init.items ≡
-        map (ground_atom (problem_scope problem.now known.now)) (all_after problem.now (codes ":init") (trees problem_sections.now)) }
+        map (ground_atom (problem_scope problem.now known.now))
+        (all_after problem.now (codes ":init") (trees problem_sections.now)) }
     requires goal { stated.goal.items ≡
-        flat_map (literals_of (problem_scope problem.now known.now)) (all_after problem.now (codes ":goal") (trees problem_sections.now)) }
+        flat_map (literals_of (problem_scope problem.now known.now))
+        (all_after problem.now (codes ":goal") (trees problem_sections.now)) }
     requires parts { AreParts
         (stated_types domain.now (trees domain_sections.now) known.now)
-        (stated_objects domain.now (trees domain_sections.now) problem.now (trees problem_sections.now) known.now)
+        (stated_objects domain.now (trees domain_sections.now) problem.now (trees problem_sections.now)
+        known.now)
         (spec.predicates_from schemas.items 0 known.now.predicates known.now.arities)
         schemas.items (spec.once stated.init.items) (filter_map wanted stated.goal.items) }
-    ensures { IfOk result (spec.StatesTask domain.now (trees domain_sections.now) problem.now (trees problem_sections.now) known.now) }
+    ensures { IfOk result (spec.StatesTask domain.now (trees domain_sections.now) problem.now
+        (trees problem_sections.now) known.now) }
 {
     let types_in = first_section(domain, b":types", domain_sections);
     let constants_in = first_section(domain, b":constants", domain_sections);
@@ -75,7 +81,8 @@ fn type_list<'a>(
     forms: &[Form],
 ) -> Result<Vec<TypeDef>, AllocError>
     ensures { IfOk result (λ types. types.items ≡
-        map (spec.type_of known.now.types (typed.typed_items text.now false (trees forms.now))) known.now.types) }
+        map (spec.type_of known.now.types (typed.typed_items text.now false (trees forms.now)))
+        known.now.types) }
 {
     let names = known.types();
     let items = typed_items(alloc, text, names, forms)?;
@@ -154,7 +161,8 @@ fn predicate_named(
     arity: u32,
     is_fluent: bool,
 ) -> Result<PredicateDef, AllocError>
-    ensures { IfOk result (λ made. made ≡ record { name = name.now; arity = arity; is_static = not is_fluent }) }
+    ensures { IfOk result (λ made. made ≡
+        record { name = name.now; arity = arity; is_static = not is_fluent }) }
 {
     Ok(PredicateDef {
         name: name_of(alloc, name)?,
@@ -196,7 +204,8 @@ fn add_types<'a>(
 fn extend(lists: &mut Vec<Vec<u32>>, place: usize, numbers: &[u32]) -> Result<(), AllocError>
     requires { place < length lists.old.items }
     ensures { OnOk result (lists_in lists.new.items ≡
-        slice_set (lists_in lists.old.items) place (slice_index_or (lists_in lists.old.items) place [] ++ numbers.now)) }
+        slice_set (lists_in lists.old.items) place
+        (slice_index_or (lists_in lists.old.items) place [] ++ numbers.now)) }
 {
     lists[place].extend_from_slice(numbers)?;
     Ok(())

@@ -165,7 +165,8 @@ fn stands_among(text: &[u8], names: &[&[u8]], form: &Form) -> bool
 
 /// Checks a typed list over these types.
 ///
-/// The variables of parameters are compared with each other: the caller has seen that there are 64 items at most.
+/// The variables of parameters are compared with each other: the caller has seen that there are 64 items at
+/// most.
 pub fn check_typed<'a>(
     alloc: Global,
     text: &'a [u8],
