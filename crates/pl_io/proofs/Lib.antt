@@ -6,3 +6,5 @@ pub mod Places
 pub mod Kept
 -- for the crates above
 pub mod Telling
+-- bytes that are held back and sent on in blocks
+pub mod Gathering

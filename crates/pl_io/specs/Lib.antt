@@ -1,5 +1,7 @@
 -- what a shelf of files and a sink of bytes are, and what every call on them promises
 pub mod Outside
+-- what stands between a writer of many short texts and a sink
+pub mod Blocks
 -- what the shelf and the sink in memory show, with which their clauses say what each call does
 pub mod Begun
 pub mod MemShelf

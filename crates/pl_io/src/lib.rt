@@ -4,6 +4,9 @@
 #![tactic(auto)]
 
 mod begun;
+#[cfg(test)]
+mod block_tests;
+mod blocks;
 mod error;
 mod file_shelf;
 mod mem_shelf;
@@ -19,6 +22,7 @@ mod streams;
 mod tests;
 mod tries;
 
+pub use blocks::Blocks;
 pub use error::{Failed, ReadEnd};
 pub use file_shelf::FileShelf;
 pub use mem_shelf::MemShelf;

@@ -1,0 +1,2 @@
+-- texts that are written in several calls
+pub mod Writing

@@ -1,5 +1,9 @@
 -- The texts that are printed. Each line ends with byte 10, and numbers are decimal without leading zeros.
-use Rattle.std.specs.Prelude.{ℕ, List, [], ◌∷◌, ◌++◌, codes, decimal}
+use Rattle.std.specs.Prelude.{ℕ, List, [], ◌∷◌, ◌++◌, Option, Some, None, length, slice_get, flat_map, codes, decimal}
+use Rattle.pl_task.specs.declared.data.ObjectDef.{ObjectDef}
+use Rattle.pl_task.specs.declared.data.Schema.{Schema}
+use Rattle.pl_task.specs.declared.task.Task.{Task}
+use Rattle.pl_task.specs.Instance.{Instance}
 use Rattle.pl_check.specs.declared.fault.FaultKind.{FaultKind}
 use Rattle.pl_check.specs.declared.fault.FaultKind.TheVariants as kind
 use Rattle.pl_check.specs.declared.role.FileRole.{FileRole}
@@ -15,6 +19,31 @@ use Rattle.pl_print.specs.declared.fault.Fault.TheVariants as fault
 abbrev pub in_turn : List (List ℕ) → List ℕ
 in_turn [] = []
 in_turn (text ∷ texts) = text ++ in_turn texts
+
+-- the name of an action, where there is one
+abbrev pub action_name : Option Schema → List ℕ
+action_name None = []
+action_name (Some schema) = schema.name
+
+-- the name of an object, where there is one
+abbrev pub object_name : Option ObjectDef → List ℕ
+object_name None = []
+object_name (Some object) = object.name
+
+-- a blank, and the name of the object of that number
+abbrev pub argument_text : List ObjectDef → ℕ → List ℕ
+argument_text objects number = codes " " ++ object_name (slice_get objects number)
+
+-- `(ACTION OBJECT OBJECT ..)`, with an object for each argument
+abbrev pub step_text : Task → Instance → List ℕ
+step_text task step =
+    codes "(" ++ action_name (slice_get task.schemas step.schema) ++ flat_map (argument_text task.objects) step.args ++
+    codes ")\n"
+
+-- a line for each step, and then `; length N` with their number
+abbrev pub plan_text : Task → List Instance → List ℕ
+plan_text task steps =
+    flat_map (step_text task) steps ++ (codes "; length " ++ decimal (length steps) ++ codes "\n")
 
 -- how a file is called
 abbrev pub role_text : FileRole → List ℕ

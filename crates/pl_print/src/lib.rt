@@ -4,9 +4,15 @@
 #![tactic(auto)]
 
 mod fault;
+mod plan;
+mod step;
+mod step_in_blocks;
 #[cfg(test)]
 mod tests;
 mod verdict;
 
 pub use fault::{Fault, put_fault};
+pub use plan::put_plan;
+pub use step::put_step;
+pub use step_in_blocks::put_step_in_blocks;
 pub use verdict::put_verdict;
