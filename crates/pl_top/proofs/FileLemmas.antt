@@ -10,16 +10,23 @@ use Rattle.pl_top.specs.Refusal.{outcome_of, HasBegun, IsForced, IsOfLast, IsRef
 use Rattle.pl_top.specs.Request.{Request, names_of, roles_of, name_of}
 use Rattle.pl_top.specs.Run.{EndsWith}
 
+-- further files of the request were begun
+pub begun_more : (request : Request) (count next : ℕ) (more : List (List ℕ)) (shelf mid shelf' : ShelfSeen)
+    → take next (names_of request) ≡ take count (names_of request) ++ more
+    → HasBegun request count shelf mid → shelf'.files ≡ mid.files → mid.faults ≤ shelf'.faults
+    → BegunThen mid.begun more shelf'.begun → HasBegun request next shelf shelf'
+begun_more request count next more shelf mid shelf' names h files faults begun = record {
+  files = files ∙ h.files;
+  faults = omega (arith, h.faults, faults);
+  names = subst (λ ns. BegunThen shelf.begun ns shelf'.begun) (sym names) (BegunThen-trans _ _ _ _ _ h.names begun);
+}
+
 -- the next file of the request was begun
 pub begun_next : (request : Request) (count next : ℕ) (name : List ℕ) (shelf mid shelf' : ShelfSeen)
     → take next (names_of request) ≡ take count (names_of request) ++ name ∷ []
     → HasBegun request count shelf mid → shelf'.files ≡ mid.files → mid.faults ≤ shelf'.faults
     → BegunThen mid.begun (name ∷ []) shelf'.begun → HasBegun request next shelf shelf'
-begun_next request count next name shelf mid shelf' names h files faults begun = record {
-  files = files ∙ h.files;
-  faults = omega (arith, h.faults, faults);
-  names = subst (λ ns. BegunThen shelf.begun ns shelf'.begun) (sym names) (BegunThen-trans _ _ _ _ _ h.names begun);
-}
+begun_next request count next name = begun_more request count next (name ∷ [])
 
 -- the first file of the request was begun
 pub begun_first : (request : Request) (name : List ℕ) (shelf shelf' : ShelfSeen)
@@ -88,6 +95,7 @@ unread_cause request name role shelf mid shelf' (refused.TooLong other) named be
       goes_on = subst (λ (o : FileRole). too_long o ≡ too_long role) (sym same) refl;
     }))
 unread_cause request name role shelf mid shelf' (refused.Input file line column kind) named before later after leads h = absurd h
+unread_cause request name role shelf mid shelf' refused.NotAStep named before later after leads h = absurd h
 unread_cause request name role shelf mid shelf' (refused.Memory error) named before later after leads h = inr tt
 
 -- a file that can't be read is the one that was begun last
@@ -96,6 +104,7 @@ of_last : (name : List ℕ) (role : FileRole) (shelf shelf' : ShelfSeen) (r : Re
 of_last name role shelf shelf' (refused.CannotRead other) roles ends h = subst (EndsWith roles) (sym h.0) ends
 of_last name role shelf shelf' (refused.TooLong other) roles ends h = tt
 of_last name role shelf shelf' (refused.Input file line column kind) roles ends h = tt
+of_last name role shelf shelf' refused.NotAStep roles ends h = tt
 of_last name role shelf shelf' (refused.Memory error) roles ends h = tt
 
 -- a request whose file isn't read whole is refused, after `count` files were begun

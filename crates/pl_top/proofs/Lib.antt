@@ -7,3 +7,22 @@ mod FileLemmas
 mod ValidateLemmas
 -- from what the parts of a run did to how it ends
 mod RunLemmas
+-- the verdict that lines have
+mod VerdictLemmas
+-- what the lines of a plan come to where steps are listed after it
+mod WorkedLemmas
+-- the outcome of `successors` for the bytes of its files
+mod ListedLemmas
+-- the outcome that a request has over told files
+mod OutcomeLemmas
+-- what the lines of a plan lead to
+mod ReachLemmas
+-- the text of a list, line by line
+mod PutLemmas
+-- the steps of a list
+mod ListLemmas
+-- the files of `successors`, and what a listing starts from
+mod StartLemmas
+mod SuccessorsLemmas
+-- from what a listing did to how its run ends
+mod FinishLemmas

@@ -1,5 +1,5 @@
 -- How a run ends, from what its parts did; without a fault it has its answer, or memory ran out.
-use Rattle.std.proofs.Common.{◌≡◌, ◌≢◌, ℕ, ◌≤◌, Bool, true, cond, List, [], length, Option, Some, None, ◌⊎◌, inl, inr, refl, sym, ◌∙◌, ap, subst, nat_le, append-nil, arith}
+use Rattle.std.proofs.Common.{◌≡◌, ◌≢◌, ℕ, ◌≤◌, Bool, true, cond, List, [], length, Option, Some, None, ◌⊎◌, inl, inr, refl, sym, ◌∙◌, ap, subst, nat_le, append-nil, arith, IfSome}
 use Rattle.std.proofs.lemmas.Bool.{le-leb}
 use Rattle.std.specs.Io.KnownBytes.{Appends}
 use Rattle.std.proofs.KnownBytes.{Appends-nil}
@@ -10,15 +10,19 @@ use Rattle.pl_top.specs.declared.refusal.Refusal.{Refusal}
 use Rattle.pl_top.specs.declared.refusal.Refusal.TheVariants as refused
 use Rattle.pl_check.specs.declared.role.FileRole.{FileRole}
 use Rattle.pl_check.specs.declared.role.FileRole.TheVariants.{Domain, Problem, Plan}
-use Rattle.pl_top.specs.Answer.{Outcome, Whole, Overlong, reading_of, GoesOn, IsRead, IsAnswer, IsJudged, verdict_outcome, verdict_status}
+use Rattle.pl_top.specs.Answer.{Outcome, Whole, Overlong, reading_of, GoesOn, IsRead, IsAnswer, IsJudged, IsListed, IsWorked, IsFaultOfAny, IsNoStep, IsPlanRead, verdict_outcome}
 use Rattle.pl_top.specs.Refusal.{outcome_of, HasBegun, IsForced, IsOfLast, IsRefused}
-use Rattle.pl_top.specs.Request.{Request, Validate}
+use Rattle.pl_top.specs.Request.{Request, Validate, Successors}
 use Rattle.pl_top.specs.Writing.{Writes}
-use Rattle.pl_top.specs.Run.{Ending, RunEnds, IsCause, AreFaultless, EndsWith, status_of, Answered, StoppedReading, StoppedWriting, OutOfMemory, IsPut, IsLinePut, IsStatusOf, IsComplete}
+use Rattle.pl_top.specs.Run.{Ending, RunEnds, IsCause, AreFaultless, IsFaultlessPlan, IsStepOfStated, EndsWith, status_of, Answered, StoppedReading, StoppedWriting, OutOfMemory, IsPut, IsLinePut, IsStatusOf, IsComplete}
+use Rattle.pl_task.specs.declared.plan.PlanLine.{PlanLine}
+use Rattle.pl_task.specs.declared.task.Task.{Task}
+use Rattle.pl_task.specs.Instance.{Instance}
 use Rattle.pl_check.specs.FirstFault.{IsFirstFault}
+use Rattle.pl_check.specs.Stated.{AreStated}
 use Rattle.pl_check.specs.PlanLines.{IsPlanFault}
 use Rattle.pl_check.specs.declared.fault.InputFault.{InputFault}
-use Rattle.pl_print.specs.Texts.{fault_text, verdict_text}
+use Rattle.pl_print.specs.Texts.{fault_text}
 use Rattle.pl_print.specs.declared.fault.Fault.TheVariants as fault
 
 -- at most, as the test
@@ -56,6 +60,7 @@ names_last : (r : Refusal) (roles : List FileRole) → IsOfLast roles r → (out
 names_last (refused.CannotRead role) roles last four = (role, refl, last)
 names_last (refused.TooLong role) roles last four = absurd (cc four)
 names_last (refused.Input file line column kind) roles last four = absurd (cc four)
+names_last refused.NotAStep roles last four = absurd (cc four)
 names_last (refused.Memory error) roles last four = absurd (cc four)
 
 module _ (request : Request) (shelf shelf' : ShelfSeen) (out out' err err' : SinkSeen) where
@@ -123,6 +128,7 @@ module _ (request : Request) (shelf shelf' : ShelfSeen) (out out' err err' : Sin
   }
   forced (refused.TooLong role) h why same line = absurd why
   forced (refused.Input file row column kind) h why same line = absurd why
+  forced refused.NotAStep h why same line = absurd why
   forced (refused.Memory error) h why same line = record {
     ending = OutOfMemory;
     cause = tt;
@@ -203,6 +209,56 @@ judged_status domain problem plan outcome no_input no_plan (inr h) = elim h.judg
   | inr v ↦ subst (λ (o : Outcome). IsVerdictStatus o.status) (sym v.comes) (verdict_has_status v.verdict)
 ]
 
+-- the plan file has no fault
+abbrev HasNoFault : List ℕ → Type 0
+HasNoFault bytes = (found : InputFault) → IsPlanFault bytes found → ⊥
+
+-- a plan file without a fault is read whole, where one is named
+plan_known : (files : List NamedBytes) (place : ℕ) (after : Option (List ℕ)) (outcome : Outcome)
+    (Further : Option (List ℕ) → Type 0) → IfSome after (IsFaultlessPlan files)
+    → IsPlanRead (Some files) place after outcome Further → (l : Option (List ℕ)) × IfSome l HasNoFault × Further l
+plan_known files place None outcome Further s h = (None, tt, h)
+plan_known files place (Some name) outcome Further s h = (
+  Some s.bytes,
+  s.no_fault,
+  read_whole files place name Plan outcome (λ bytes. Further (Some bytes)) s.bytes s.told s.short h,
+)
+
+-- a plan file without a fault isn't refused
+no_fault_of_any : (plan : Option (List ℕ)) (outcome : Outcome) → IfSome plan HasNoFault → IsFaultOfAny plan outcome → ⊥
+no_fault_of_any None outcome s h = h
+no_fault_of_any (Some plan) outcome s h = s h.found h.is_first
+
+-- a step isn't refused
+no_refused_step : (domain problem : List ℕ) (task : Task) (text : Option (List ℕ)) (outcome : Outcome)
+    → IfSome text (IsStepOfStated domain problem) → AreStated domain problem task → IsNoStep task text outcome → ⊥
+no_refused_step domain problem task None outcome s stated h = h
+no_refused_step domain problem task (Some text) outcome s stated h =
+    let found = s task stated in
+    h.0 found.0 found.1
+
+-- a list or a verdict has its status
+worked_status : (task : Task) (lines : List PlanLine) (past : Option Instance) (count : Option ℕ) (outcome : Outcome)
+    → IsWorked task lines past count outcome → IsVerdictStatus outcome.status
+worked_status task lines past count outcome (inl h) =
+    subst (λ (o : Outcome). IsVerdictStatus o.status) (sym h.comes) (inr refl)
+worked_status task lines past count outcome (inr h) =
+    subst (λ (o : Outcome). IsVerdictStatus o.status) (sym h.comes) (inl refl)
+
+-- files without a fault, and a step of their task, come to a list or a verdict
+listed_status : (domain problem : List ℕ) (plan text : Option (List ℕ)) (count : Option ℕ) (outcome : Outcome)
+    → ((found : InputFault) → IsFirstFault domain problem found → ⊥) → IfSome plan HasNoFault
+    → IfSome text (IsStepOfStated domain problem)
+    → IsListed domain problem plan text count outcome → IsVerdictStatus outcome.status
+listed_status domain problem plan text count outcome no_input no_plan step (inl h) = absurd (no_input h.found h.is_first)
+listed_status domain problem plan text count outcome no_input no_plan step (inr h) = elim h.listed [
+  | inl f ↦ absurd (no_fault_of_any plan outcome no_plan f)
+  | inr l ↦ elim l.comes [
+    | inl none ↦ absurd (no_refused_step domain problem h.task text outcome step h.stated none)
+    | inr p ↦ worked_status h.task l.lines p.past count outcome p.worked
+  ]
+]
+
 -- the answer to a request without a fault has one of its statuses
 answer_status : (request : Request) (files : List NamedBytes) (place : ℕ) (outcome : Outcome)
     → AreFaultless request files → IsAnswer request (Some files) place outcome
@@ -212,6 +268,11 @@ answer_status (Validate domain problem plan) files place outcome s answer =
     let two = read_whole files place problem Problem outcome _ s.problem_bytes s.problem_told s.problem_short first in
     let three = read_whole files place plan Plan outcome _ s.plan_bytes s.plan_told s.plan_short two in
     judged_status s.domain_bytes s.problem_bytes s.plan_bytes outcome s.no_input_fault s.no_plan_fault three
+answer_status (Successors domain problem options) files place outcome s answer =
+    let first = read_whole files place domain Domain outcome _ s.domain_bytes s.domain_told s.domain_short answer in
+    let two = read_whole files place problem Problem outcome _ s.problem_bytes s.problem_told s.problem_short first in
+    let plan = plan_known files place options.after outcome _ s.plan two in
+    listed_status s.domain_bytes s.problem_bytes plan.0 options.past options.count outcome s.no_input_fault plan.1 s.past plan.2
 
 -- without a fault a run has its answer, or memory ran out
 pub run_complete : (request : Request) (shelf shelf' : ShelfSeen) (out out' err err' : SinkSeen) (result : ℕ)

@@ -14,7 +14,7 @@ use Rattle.pl_top.specs.declared.refusal.Refusal.{Refusal}
 use Rattle.pl_top.specs.declared.refusal.Refusal.TheVariants as refused
 use Rattle.pl_check.specs.declared.role.FileRole.TheVariants.{Domain, Problem, Plan}
 use Rattle.pl_top.specs.Answer.{Outcome, Whole, IsReadingOf, IsAnswer, IsJudged, verdict_outcome}
-use Rattle.pl_top.specs.Refusal.{outcome_of, HasBegun, IsRefused, IsUnread, IsUnjudged, input_refusal}
+use Rattle.pl_top.specs.Refusal.{HasBegun, IsRefused, IsUnread, IsUnjudged, input_refusal}
 use Rattle.pl_top.specs.Request.{Validate}
 use Rattle.pl_top.proofs.FileLemmas.{begun_first, begun_next, IsRead-weaker, unread}
 
@@ -134,6 +134,12 @@ module _ (domain problem plan : List ℕ) where
   no_verdict shelf three d p l (refused.CannotRead role) first second third begun why = absurd why
   no_verdict shelf three d p l (refused.TooLong role) first second third begun why = absurd why
   no_verdict shelf three d p l (refused.Input file line column kind) first second third begun why = record {
+    count = 3;
+    begun = begun;
+    cause = inl (whole_files shelf.files three.place d p l _ (first _) (second _) (third _) why);
+    last = tt;
+  }
+  no_verdict shelf three d p l refused.NotAStep first second third begun why = record {
     count = 3;
     begun = begun;
     cause = inl (whole_files shelf.files three.place d p l _ (first _) (second _) (third _) why);

@@ -1,22 +1,28 @@
 -- What the answer to a request is: a relation between the files and the outcome.
-use Rattle.std.specs.Prelude.{◌≡◌, ℕ, ◌+◌, ◌≤◌, cond, nat_le, ◌⊎◌, List, [], length, Option, Some, None}
+use Rattle.std.specs.Prelude.{◌≡◌, ℕ, ◌+◌, ◌≤◌, cond, nat_le, ◌⊎◌, List, [], length, map, Option, Some, None, ⊤}
 use Rattle.pl_io.specs.Outside.{NamedBytes, content_of, most_file_bytes}
 use Rattle.pl_text.specs.Lines.{line_of, column_of}
 use Rattle.pl_task.specs.declared.plan.PlanLine.{PlanLine}
+use Rattle.pl_task.specs.declared.plan.PlanLine.TheVariants as line
 use Rattle.pl_task.specs.declared.task.Task.{Task}
+use Rattle.pl_task.specs.Instance.{Instance}
+use Rattle.pl_task.specs.States.{State, initial}
+use Rattle.pl_task.specs.Plans.{Executes}
 use Rattle.pl_check.specs.FirstFault.{IsFirstFault}
-use Rattle.pl_check.specs.PlanLines.{AreLines, IsPlanFault}
+use Rattle.pl_check.specs.PlanLines.{AreLines, IsPlanFault, IsStepText}
 use Rattle.pl_check.specs.Stated.{AreStated}
 use Rattle.pl_check.specs.declared.fault.InputFault.{InputFault}
 use Rattle.pl_check.specs.declared.role.FileRole.{FileRole}
 use Rattle.pl_check.specs.declared.role.FileRole.TheVariants.{Domain, Problem, Plan}
+use Rattle.pl_valid.specs.declared.verdict.Reason.{Reason}
 use Rattle.pl_valid.specs.declared.verdict.Verdict.{Verdict}
 use Rattle.pl_valid.specs.declared.verdict.Verdict.TheVariants.{Valid, Invalid, GoalMissed}
-use Rattle.pl_valid.specs.Verdict.{IsVerdict}
+use Rattle.pl_valid.specs.Verdict.{IsVerdict, IsFirstRefused}
 use Rattle.pl_print.specs.Texts.{verdict_text, fault_text}
 use Rattle.pl_print.specs.declared.fault.Fault.{Fault}
 use Rattle.pl_print.specs.declared.fault.Fault.TheVariants as fault
-use Rattle.pl_top.specs.Request.{Request, Validate}
+use Rattle.pl_top.specs.Listing.{successors_text}
+use Rattle.pl_top.specs.Request.{Request, Validate, Successors}
 
 -- what a run comes to: a status, a text for `out`, and a line for `err`
 pub record Outcome : Type 0 where
@@ -119,6 +125,79 @@ pub record IsPlanJudged (domain problem plan : List ℕ) (outcome : Outcome) : T
 abbrev pub IsJudged : List ℕ → List ℕ → List ℕ → Outcome → Type 0
 IsJudged domain problem plan outcome = IsInputFault domain problem outcome ⊎ IsPlanJudged domain problem plan outcome
 
+-- the plan file, where one is given, has a first fault, which is the outcome
+abbrev pub IsFaultOfAny : Option (List ℕ) → Outcome → Type 0
+IsFaultOfAny None outcome = ⊥
+IsFaultOfAny (Some plan) outcome = IsFaultOfPlan plan outcome
+
+-- the lines of the plan file, and no line where none is given
+abbrev pub AreLinesOfAny : Option (List ℕ) → Task → List PlanLine → Type 0
+AreLinesOfAny None task lines = lines ≡ []
+AreLinesOfAny (Some plan) task lines = AreLines plan task lines
+
+-- a text is given that is no step of the task, which is the outcome
+abbrev pub IsNoStep : Task → Option (List ℕ) → Outcome → Type 0
+IsNoStep task None outcome = ⊥
+IsNoStep task (Some text) outcome = ((step : Instance) → IsStepText text task step → ⊥) × (outcome ≡ refusal 2 fault.NotAStep)
+
+-- the text is this step of the task, or neither is given
+abbrev pub IsStepOfText : Task → Option (List ℕ) → Option Instance → Type 0
+IsStepOfText task None None = ⊤
+IsStepOfText task None (Some step) = ⊥
+IsStepOfText task (Some text) None = ⊥
+IsStepOfText task (Some text) (Some step) = IsStepText text task step
+
+-- a line of the plan is refused, and the verdict that says so is the outcome
+pub record IsInvalidPlan (task : Task) (lines : List PlanLine) (outcome : Outcome) : Type 0 where
+  pub number : ℕ
+  pub why : Reason
+  pub first : IsFirstRefused task lines number why
+  pub comes : outcome ≡ verdict_outcome (Invalid number why)
+
+-- status 0, with the steps that are applicable in the state
+abbrev pub list_outcome : Task → State → Option Instance → Option ℕ → Outcome
+list_outcome task s past count = record { status = 0; text = successors_text task s past count; line = [] }
+
+-- the lines are steps that are executed from the initial state, and the list for the state that they lead to is the outcome
+pub record IsListAfter (task : Task) (lines : List PlanLine) (past : Option Instance) (count : Option ℕ) (outcome : Outcome) : Type 0 where
+  pub steps : List Instance
+  pub state : State
+  pub lines_are : lines ≡ map line.Step steps
+  pub executed : Executes task (initial task) steps state
+  pub comes : outcome ≡ list_outcome task state past count
+
+-- the outcome of the lines of a plan, of a step past which steps are listed, and of their number
+abbrev pub IsWorked : Task → List PlanLine → Option Instance → Option ℕ → Outcome → Type 0
+IsWorked task lines past count outcome = IsInvalidPlan task lines outcome ⊎ IsListAfter task lines past count outcome
+
+-- the text is a step, with which the outcome comes
+pub record IsPastStep (task : Task) (lines : List PlanLine) (text : Option (List ℕ)) (count : Option ℕ) (outcome : Outcome) : Type 0 where
+  pub past : Option Instance
+  pub is : IsStepOfText task text past
+  pub worked : IsWorked task lines past count outcome
+
+-- the plan file has lines, with which the outcome comes: first it is seen whether the text is a step
+pub record IsListOfLines (task : Task) (plan : Option (List ℕ)) (text : Option (List ℕ)) (count : Option ℕ) (outcome : Outcome) : Type 0 where
+  pub lines : List PlanLine
+  pub are : AreLinesOfAny plan task lines
+  pub comes : IsNoStep task text outcome ⊎ IsPastStep task lines text count outcome
+
+-- domain and problem state a task, whose steps are listed
+pub record IsTaskListed (domain problem : List ℕ) (plan text : Option (List ℕ)) (count : Option ℕ) (outcome : Outcome) : Type 0 where
+  pub task : Task
+  pub stated : AreStated domain problem task
+  pub listed : IsFaultOfAny plan outcome ⊎ IsListOfLines task plan text count outcome
+
+-- the outcome for the bytes of a domain, a problem and maybe a plan, for the text of a step, and for a number of steps
+abbrev pub IsListed : List ℕ → List ℕ → Option (List ℕ) → Option (List ℕ) → Option ℕ → Outcome → Type 0
+IsListed domain problem plan text count outcome =
+    IsInputFault domain problem outcome ⊎ IsTaskListed domain problem plan text count outcome
+
+-- the plan file is read where one is named, and then what it says is looked at
+abbrev pub IsPlanRead : Option (List NamedBytes) → ℕ → Option (List ℕ) → Outcome → (Option (List ℕ) → Type 0) → Type 0
+IsPlanRead files place None outcome Further = Further None
+IsPlanRead files place (Some name) outcome Further = IsRead files place name Plan outcome (λ bytes. Further (Some bytes))
+
 -- the answer to a request: its files are read in this order, and the first that isn't read whole decides
 abbrev pub IsAnswer : Request → Option (List NamedBytes) → ℕ → Outcome → Type 0
 IsAnswer (Validate domain problem plan) files place outcome =
@@ -126,3 +205,8 @@ IsAnswer (Validate domain problem plan) files place outcome =
     IsRead files place problem Problem outcome (λ p.
     IsRead files place plan Plan outcome (λ l.
     IsJudged d p l outcome)))
+IsAnswer (Successors domain problem options) files place outcome =
+    IsRead files place domain Domain outcome (λ d.
+    IsRead files place problem Problem outcome (λ p.
+    IsPlanRead files place options.after outcome (λ l.
+    IsListed d p l options.past options.count outcome)))

@@ -3,13 +3,16 @@ use Rattle.std.specs.Prelude.{◌≡◌, ◌≢◌, ℕ, ◌≤◌, ◌⊎◌, L
 use Rattle.std.specs.Io.KnownBytes.{Appends}
 use Rattle.pl_io.specs.Outside.{NamedBytes, ShelfSeen, SinkSeen, content_of, most_file_bytes, AppendsFront, BegunThen, Rose}
 use Rattle.pl_check.specs.FirstFault.{IsFirstFault}
-use Rattle.pl_check.specs.PlanLines.{IsPlanFault}
+use Rattle.pl_check.specs.PlanLines.{IsPlanFault, IsStepText}
+use Rattle.pl_check.specs.Stated.{AreStated}
 use Rattle.pl_check.specs.declared.fault.InputFault.{InputFault}
+use Rattle.pl_task.specs.declared.task.Task.{Task}
+use Rattle.pl_task.specs.Instance.{Instance}
 use Rattle.pl_print.specs.Texts.{fault_text}
 use Rattle.pl_print.specs.declared.fault.Fault.TheVariants as fault
 use Rattle.pl_check.specs.declared.role.FileRole.{FileRole}
 use Rattle.pl_top.specs.Answer.{Outcome, IsAnswer}
-use Rattle.pl_top.specs.Request.{Request, Validate, name_of, names_of, roles_of}
+use Rattle.pl_top.specs.Request.{Request, Options, Validate, Successors, name_of, names_of, roles_of}
 
 -- how a run ends: with its answer, stopped as it read a file, stopped as it wrote its answer, or out of memory
 pub data Ending : Type 0 where
@@ -90,6 +93,7 @@ pub record RunEnds (request : Request) (shelf shelf' : ShelfSeen) (out out' err 
 -- what holds of a request that takes no probe
 abbrev pub IfProbeless : Request → Type 0 → Type 0
 IfProbeless (Validate domain problem plan) fact = fact
+IfProbeless (Successors domain problem options) fact = ⊤
 
 -- told files that are all there, are short enough, and have no fault
 pub record AreJudgeable (files : List NamedBytes) (domain problem plan : List ℕ) : Type 0 where
@@ -105,13 +109,38 @@ pub record AreJudgeable (files : List NamedBytes) (domain problem plan : List �
   pub no_input_fault : (found : InputFault) → IsFirstFault domain_bytes problem_bytes found → ⊥
   pub no_plan_fault : (found : InputFault) → IsPlanFault plan_bytes found → ⊥
 
+-- the plan file of that name is told, is short enough, and has no fault
+pub record IsFaultlessPlan (files : List NamedBytes) (name : List ℕ) : Type 0 where
+  pub bytes : List ℕ
+  pub told : content_of files name ≡ Some bytes
+  pub short : length bytes ≤ most_file_bytes
+  pub no_fault : (found : InputFault) → IsPlanFault bytes found → ⊥
+
+-- the text is a step of the task that domain and problem state
+abbrev pub IsStepOfStated : List ℕ → List ℕ → List ℕ → Type 0
+IsStepOfStated domain problem text = (task : Task) → AreStated domain problem task → (step : Instance) × IsStepText text task step
+
+-- told files that are all there, are short enough, and have no fault, and a step of their task where a text is given
+pub record AreListable (files : List NamedBytes) (domain problem : List ℕ) (options : Options) : Type 0 where
+  pub domain_bytes : List ℕ
+  pub problem_bytes : List ℕ
+  pub domain_told : content_of files domain ≡ Some domain_bytes
+  pub problem_told : content_of files problem ≡ Some problem_bytes
+  pub domain_short : length domain_bytes ≤ most_file_bytes
+  pub problem_short : length problem_bytes ≤ most_file_bytes
+  pub no_input_fault : (found : InputFault) → IsFirstFault domain_bytes problem_bytes found → ⊥
+  pub plan : IfSome options.after (IsFaultlessPlan files)
+  pub past : IfSome options.past (IsStepOfStated domain_bytes problem_bytes)
+
 -- the told files have nothing for which the request would be refused
 abbrev pub AreFaultless : Request → List NamedBytes → Type 0
 AreFaultless (Validate domain problem plan) files = AreJudgeable files domain problem plan
+AreFaultless (Successors domain problem options) files = AreListable files domain problem options
 
 -- the statuses of a request that is not refused
 abbrev pub IsStatusOf : Request → ℕ → Type 0
 IsStatusOf (Validate domain problem plan) status = (status ≡ 0) ⊎ (status ≡ 1)
+IsStatusOf (Successors domain problem options) status = (status ≡ 0) ⊎ (status ≡ 1)
 
 -- where the files are told and without a fault, and neither the shelf nor `out` failed, a run has its answer or runs out of memory
 abbrev pub IsComplete : Request → ShelfSeen → ShelfSeen → SinkSeen → SinkSeen → ℕ → Type 0

@@ -29,6 +29,8 @@ pub enum Refusal {
         /// What is wrong there.
         kind: FaultKind,
     },
+    /// The text of the step past which steps are listed is no step of the task.
+    NotAStep,
     /// Memory ran out.
     Memory(AllocError),
 }
@@ -42,6 +44,7 @@ pub fn refuse<E: Sink>(refusal: &Refusal, err: &mut E) -> u8
     match refusal {
         Refusal::CannotRead(_) => 4,
         Refusal::TooLong(_) | Refusal::Input { .. } => 3,
+        Refusal::NotAStep => 2,
         Refusal::Memory(_) => 8,
     }
 }
@@ -73,6 +76,7 @@ fn fault(refusal: &Refusal) -> Fault
             column,
             kind,
         },
+        Refusal::NotAStep => Fault::NotAStep,
         Refusal::Memory(_) => Fault::Memory,
     }
 }

@@ -9,6 +9,7 @@ ghost use Rattle.pl_top.specs.Run.{RunEnds, IsComplete, IsLinePut, IfProbeless};
 
 use crate::refusal::put_line;
 use crate::request::{Request, request_of};
+use crate::successors::successors;
 use crate::validating::validate;
 use crate::words::Words;
 use pl_io::{Shelf, Sink};
@@ -57,12 +58,12 @@ fn perform<S: Shelf, O: Sink, E: Sink, L: Ledger>(
     shelf: &mut S,
     out: &mut O,
     err: &mut E,
-    _steps: &mut Steps<L>,
+    steps: &mut Steps<L>,
 ) -> u8
     ensures ends { RunEnds (named request.now) (S.seen shelf.old) (S.seen shelf.new)
         (O.seen out.old) (O.seen out.new) (E.seen err.old) (E.seen err.new) result }
     ensures no_file { spec.names_of (named request.now) ≡ [] → shelf.new ≡ shelf.old }
-    ensures probes { IfProbeless (named request.now) (_steps.new ≡ _steps.old) }
+    ensures probes { IfProbeless (named request.now) (steps.new ≡ steps.old) }
 {
     match *request {
         Request::Validate {
@@ -70,5 +71,10 @@ fn perform<S: Shelf, O: Sink, E: Sink, L: Ledger>(
             problem,
             plan,
         } => validate(alloc, domain, problem, plan, shelf, out, err),
+        Request::Successors {
+            domain,
+            problem,
+            options,
+        } => successors(alloc, domain, problem, options, shelf, out, err, steps),
     }
 }

@@ -292,7 +292,7 @@ const BAD_WORDS: &[&[&str]] = &[
     &["validate", "d", "p", "--l"],
     &["Validate", "d", "p", "l"],
     &["plan", "d", "p"],
-    &["successors", "d", "p"],
+    &["successors", "d"],
     &["make", "hop", "1", "0"],
     &["--help"],
     &["--version"],
@@ -787,5 +787,452 @@ fn large_files_are_judged(rt: HostRuntime) -> Result<(), Fail> {
         err: "",
     };
     assert!(rt; is_met::<Brand>(alloc, &case, Blank::new(1))?);
+    Ok(())
+}
+
+/// Walks of two links.
+const WALK: &str = "(define (domain paths)
+ (:predicates (e ?x ?y) (done))
+ (:action walk :parameters (?x ?y ?z) :precondition (and (e ?x ?y) (e ?y ?z)) :effect (done)))
+";
+
+/// Links to and from a middle object.
+const LINKS: &str = "(define (problem q) (:domain paths) (:objects a b c)
+ (:init (e a b) (e c b) (e b a) (e b c)) (:goal (and)))
+";
+
+/// Closed walks of three links.
+const TRIANGLE: &str = "(define (domain paths)
+ (:predicates (e ?x ?y) (done))
+ (:action tri :parameters (?x ?y ?z) :precondition (and (e ?x ?y) (e ?y ?z) (e ?z ?x)) :effect (done)))
+";
+
+/// Three links in a circle.
+const CIRCLE: &str = "(define (problem q) (:domain paths) (:objects a b c)
+ (:init (e a b) (e b c) (e c a)) (:goal (and)))
+";
+
+/// An action without parameters.
+const GO: &str = "(define (domain paths)
+ (:predicates (e ?x ?y) (done) (ready))
+ (:action go :parameters () :precondition (ready) :effect (done)))
+";
+
+/// It can be done.
+const IS_READY: &str = "(define (problem q) (:domain paths) (:objects a b c)
+ (:init (ready)) (:goal (and)))
+";
+
+/// It can not.
+const NOT_READY: &str = "(define (problem q) (:domain paths) (:objects a b c)
+ (:init ) (:goal (and)))
+";
+
+/// Pairs of which the second one is missing.
+const PAIR: &str = "(define (domain paths)
+ (:predicates (e ?x ?y) (done) (p ?x) (q ?x))
+ (:action two :parameters (?x ?y) :precondition (and (p ?x) (q ?y)) :effect (done)))
+";
+
+/// The first ones alone.
+const FIRSTS: &str = "(define (problem q) (:domain paths) (:objects a b c)
+ (:init (p a) (p b)) (:goal (and)))
+";
+
+/// One object of two types.
+const SAME: &str = "(define (domain kinds) (:types t u) (:predicates (done))
+ (:action same :parameters (?x - t ?y - u) :precondition (= ?x ?y) :effect (done)))
+";
+
+/// An object of one of two types.
+const ANY: &str = "(define (domain kinds) (:types t u) (:predicates (done))
+ (:action any :parameters (?x - (either t u)) :effect (done)))
+";
+
+/// An object of each type, and one of both.
+const KINDS: &str =
+    "(define (problem k) (:domain kinds) (:objects a b - t b c - u) (:init) (:goal (and)))
+";
+
+/// A parameter that stands twice beside a constant.
+const PICK: &str = "(define (domain picks) (:predicates (p ?x ?y ?z) (done)) (:constants a b c)
+ (:action pick :parameters (?x) :precondition (and (p ?x ?x c) (not (= ?x c))) :effect (done)))
+";
+
+/// Three atoms of which one serves.
+const PICKS: &str =
+    "(define (problem k) (:domain picks) (:init (p a a c) (p a b c) (p c c c) (p b b a)) (:goal (and)))
+";
+
+/// Walks of two links that don't come back.
+const WALK_ON: &str = "(define (domain paths)
+ (:predicates (e ?x ?y) (done))
+ (:action walk :parameters (?x ?y ?z) :precondition (and (e ?x ?y) (e ?y ?z) (not (= ?x ?z))) :effect (done)))
+";
+
+/// A domain, a problem and a plan, the options, and then the status and the two texts.
+type Listed = (
+    &'static str,
+    &'static str,
+    &'static str,
+    &'static [&'static str],
+    u8,
+    &'static str,
+    &'static str,
+);
+
+const LISTED: &[Listed] = &[
+    (
+        WALK,
+        LINKS,
+        "",
+        &["successors", "d", "p"],
+        0,
+        "(walk b a b)\n(walk a b a)\n(walk c b a)\n(walk a b c)\n(walk c b c)\n(walk b c b)\n; end\n",
+        "",
+    ),
+    (
+        WALK,
+        LINKS,
+        "",
+        &["successors", "d", "p", "--count", "6"],
+        0,
+        "(walk b a b)\n(walk a b a)\n(walk c b a)\n(walk a b c)\n(walk c b c)\n(walk b c b)\n; end\n",
+        "",
+    ),
+    (
+        WALK,
+        LINKS,
+        "",
+        &["successors", "d", "p", "--count", "5"],
+        0,
+        "(walk b a b)\n(walk a b a)\n(walk c b a)\n(walk a b c)\n(walk c b c)\n; more\n",
+        "",
+    ),
+    (
+        WALK,
+        LINKS,
+        "",
+        &["successors", "d", "p", "--count", "0"],
+        0,
+        "; more\n",
+        "",
+    ),
+    (
+        TRIANGLE,
+        CIRCLE,
+        "",
+        &["successors", "d", "p"],
+        0,
+        "(tri a b c)\n(tri b c a)\n(tri c a b)\n; end\n",
+        "",
+    ),
+    (
+        GO,
+        IS_READY,
+        "",
+        &["successors", "d", "p"],
+        0,
+        "(go)\n; end\n",
+        "",
+    ),
+    (
+        GO,
+        NOT_READY,
+        "",
+        &["successors", "d", "p"],
+        0,
+        "; end\n",
+        "",
+    ),
+    (
+        GO,
+        NOT_READY,
+        "",
+        &["successors", "d", "p", "--count", "0"],
+        0,
+        "; end\n",
+        "",
+    ),
+    (
+        PAIR,
+        FIRSTS,
+        "",
+        &["successors", "d", "p"],
+        0,
+        "; end\n",
+        "",
+    ),
+    (
+        SAME,
+        KINDS,
+        "",
+        &["successors", "d", "p"],
+        0,
+        "(same b b)\n; end\n",
+        "",
+    ),
+    (
+        SAME,
+        KINDS,
+        "",
+        &["successors", "d", "p", "--past", "(same b a)"],
+        0,
+        "(same b b)\n; end\n",
+        "",
+    ),
+    (
+        SAME,
+        KINDS,
+        "",
+        &["successors", "d", "p", "--past", "(same b c)"],
+        0,
+        "; end\n",
+        "",
+    ),
+    (
+        PICK,
+        PICKS,
+        "",
+        &["successors", "d", "p"],
+        0,
+        "(pick a)\n; end\n",
+        "",
+    ),
+    (
+        WALK,
+        LINKS,
+        "",
+        &[
+            "successors",
+            "d",
+            "p",
+            "--past",
+            "(walk a b b)",
+            "--count",
+            "2",
+        ],
+        0,
+        "(walk a b c)\n(walk c b c)\n; more\n",
+        "",
+    ),
+    (
+        WALK,
+        LINKS,
+        "",
+        &["successors", "d", "p", "--past", "(walk c c c)"],
+        0,
+        "; end\n",
+        "",
+    ),
+    (
+        WALK_ON,
+        LINKS,
+        "",
+        &["successors", "d", "p"],
+        0,
+        "(walk c b a)\n(walk a b c)\n; end\n",
+        "",
+    ),
+    (
+        HOP,
+        ROW,
+        "(hop a b) ; one step",
+        &["successors", "d", "p", "--after", "l"],
+        0,
+        "(hop b c)\n; end\n",
+        "",
+    ),
+    (
+        HOP,
+        ROW,
+        "(hop b c)",
+        &["successors", "d", "p", "--after", "l"],
+        1,
+        "invalid 1 inapplicable\n",
+        "",
+    ),
+    (
+        HOP,
+        ROW,
+        "",
+        &["successors", "d", "p", "--after", "l"],
+        0,
+        "(hop a b)\n; end\n",
+        "",
+    ),
+    (
+        HOP,
+        ROW,
+        "(hop b c)",
+        &[
+            "successors",
+            "d",
+            "p",
+            "--count",
+            "9",
+            "--past",
+            "(hop)",
+            "--after",
+            "l",
+        ],
+        2,
+        "",
+        "powerlift: not a step\n",
+    ),
+    (
+        HOP,
+        ROW,
+        "hop b c",
+        &["successors", "d", "p", "--past", "(hop)", "--after", "l"],
+        3,
+        "",
+        "powerlift: plan:1:1: bad form\n",
+    ),
+    (
+        WALK,
+        LINKS,
+        "",
+        &["successors", "d", "p", "--past", "(walk a b)"],
+        2,
+        "",
+        "powerlift: not a step\n",
+    ),
+    (
+        WALK,
+        LINKS,
+        "",
+        &["successors", "d", "p", "--past", ""],
+        2,
+        "",
+        "powerlift: not a step\n",
+    ),
+    (
+        ANY,
+        KINDS,
+        "",
+        &["successors", "d", "p"],
+        0,
+        "(any a)\n(any b)\n(any c)\n; end\n",
+        "",
+    ),
+    (
+        HOP,
+        ROW,
+        "",
+        &["successors", "d", "p", "--count", "4294967296"],
+        2,
+        "",
+        "powerlift: bad words\n",
+    ),
+    (
+        HOP,
+        ROW,
+        "",
+        &["successors", "d", "p", "--count", "01"],
+        2,
+        "",
+        "powerlift: bad words\n",
+    ),
+    (
+        HOP,
+        ROW,
+        "",
+        &["successors", "d", "p", "--count", "+1"],
+        2,
+        "",
+        "powerlift: bad words\n",
+    ),
+    (
+        HOP,
+        ROW,
+        "",
+        &["successors", "d", "p", "--count", ""],
+        2,
+        "",
+        "powerlift: bad words\n",
+    ),
+    (
+        HOP,
+        ROW,
+        "",
+        &["successors", "d", "p", "--count", "1", "--count", "1"],
+        2,
+        "",
+        "powerlift: bad words\n",
+    ),
+    (
+        HOP,
+        ROW,
+        "",
+        &["successors", "d", "p", "--past", "--count", "3"],
+        2,
+        "",
+        "powerlift: bad words\n",
+    ),
+    (
+        HOP,
+        ROW,
+        "",
+        &["successors", "d", "p", "--after", "--l"],
+        2,
+        "",
+        "powerlift: bad words\n",
+    ),
+    (
+        HOP,
+        ROW,
+        "",
+        &["successors", "d", "p", "--after"],
+        2,
+        "",
+        "powerlift: bad words\n",
+    ),
+    (
+        HOP,
+        ROW,
+        "",
+        &["successors", "d", "p", "--stats"],
+        2,
+        "",
+        "powerlift: bad words\n",
+    ),
+    (
+        HOP,
+        ROW,
+        "",
+        &["successors", "d", "p", "--past", "--count"],
+        2,
+        "",
+        "powerlift: not a step\n",
+    ),
+    (
+        HOP,
+        ROW,
+        "",
+        &["successors", "d", "p", "--count", "4294967295"],
+        0,
+        "(hop a b)\n; end\n",
+        "",
+    ),
+];
+
+#[test]
+fn steps_are_listed(rt: HostRuntime) -> Result<(), Fail> {
+    for (i, (domain, problem, plan, words, status, out, err)) in LISTED.iter().enumerate() {
+        let case = Case {
+            words,
+            files: &three(domain, problem, plan),
+            failing_reads: &[],
+            failing_writes: &[],
+            failing_lines: &[],
+            piece: 7,
+            status: *status,
+            out,
+            err,
+        };
+        let met = is_met::<Brand>(rt.alloc(), &case, Blank::new(1))?;
+        assert!(rt; met, "case {i}");
+    }
     Ok(())
 }

@@ -38,7 +38,7 @@ pub fn validate<S: Shelf, O: Sink, E: Sink>(
 }
 
 /// Prints the verdict, and answers the status.
-fn print_verdict<O: Sink, E: Sink>(verdict: &Verdict, out: &mut O, err: &mut E) -> u8
+pub fn print_verdict<O: Sink, E: Sink>(verdict: &Verdict, out: &mut O, err: &mut E) -> u8
     ensures { Writes (verdict_text verdict.now) (verdict_status verdict.now)
         (O.seen out.old) (O.seen out.new) (E.seen err.old) (E.seen err.new) result }
 {
@@ -104,7 +104,7 @@ fn judged(alloc: Global, domain: &[u8], problem: &[u8], plan: &[u8]) -> Result<V
 }
 
 /// The refusal for a fault of the domain or of the problem.
-fn of_input(domain: &[u8], problem: &[u8], fault: InputFault) -> Refusal
+pub fn of_input(domain: &[u8], problem: &[u8], fault: InputFault) -> Refusal
     requires domain { length domain.now ≤ most_file_bytes }
     requires problem { length problem.now ≤ most_file_bytes }
     ensures { result ≡ input_refusal (bytes_of domain.now problem.now fault.file) fault }
@@ -117,7 +117,7 @@ fn of_input(domain: &[u8], problem: &[u8], fault: InputFault) -> Refusal
 }
 
 /// The refusal for a fault of a file with these bytes, by its line and its column.
-fn faulty(bytes: &[u8], fault: InputFault) -> Refusal
+pub fn faulty(bytes: &[u8], fault: InputFault) -> Refusal
     requires { length bytes.now ≤ most_file_bytes }
     ensures { result ≡ input_refusal bytes.now fault }
 {

@@ -1,0 +1,29 @@
+//! What outcomes have in common: each function here is without effect, and its contract is a law.
+
+ghost use Rattle.pl_top.specs.Laws.{OutcomeIsOne, OutcomeIsThere};
+
+use pl_check::laws::{
+    fault_or_lines, fault_or_task, first_fault_is_one, lines_are_one, plan_fault_is_one,
+    task_is_one,
+};
+
+/// Over told files a request has one outcome at most: one status, one text and one line.
+pub fn outcome_is_one()
+    ensures { OutcomeIsOne }
+{
+    first_fault_is_one();
+    task_is_one();
+    fault_or_task();
+    plan_fault_is_one();
+    lines_are_one();
+    fault_or_lines();
+}
+
+/// Over told files a request has an outcome.
+pub fn outcome_is_there()
+    ensures { OutcomeIsThere }
+{
+    fault_or_task();
+    fault_or_lines();
+    lines_are_one();
+}
