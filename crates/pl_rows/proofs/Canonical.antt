@@ -78,3 +78,8 @@ length-le_ascending xs ys s same =
   where
     equal : (a b : List ℕ) → Decides (eq_by_cmp row_cmp a b) (a ≡ b)
     equal a b = rw (← texts_ties a b) (bytes_eq-Decides a b)
+
+-- no rows ascend
+pub ascending-none : IsAscending []
+unfolding IsStrictlySortedBy
+ascending-none = tt

@@ -7,7 +7,7 @@ use Rattle.std.proofs.lemmas.Bool.{cases_lt, cases_Bool, false≢true}
 use Rattle.std.proofs.lemmas.Cmp.{tied_itself, nat_list_cmp_total}
 use Rattle.std.proofs.lemmas.List.{take_all, drop_all, drop_more, get_or_default}
 use Rattle.std.proofs.lemmas.List.Sums.{sum_by-cons}
-use Rattle.std.proofs.lemmas.Option.{slice_get_within, get_or_from_slice_get}
+use Rattle.std.proofs.lemmas.Option.{slice_get_within, slice_get-get_or, get_or_from_slice_get}
 use Rattle.std.proofs.lemmas.Bool.Decides.{nat_tests}
 use Rattle.std.proofs.lemmas.Map.Keys.{Less-from_sorted}
 use Rattle.pl_rows.specs.Rows.{row_cmp, IsAscending, AreFirst}
@@ -133,18 +133,30 @@ first_from_narrowed p rows n s place row r = (is_before, passes)
     passes : place < n → IsTrue (p row)
     passes l = sym (ap p here) ∙ s.before place l
 
--- the row at the first place that doesn't come before a row decides whether the row is there
-pub has_at : (k : ℕ) (rows : List (List ℕ)) (row found : List ℕ) (n : ℕ) (same : Bool) → IsAscending rows → All (λ r. length r ≡ k) rows → length row ≡ k → IsNarrowed (comes_before false row) rows n n → slice_get rows n ≡ Some found → same ≡ bytes_eq found row → IsTrue same ↔ Contains rows row
-has_at k rows row found n same s w long narrowed r e =
+-- whether a row is the one at a place
+pub at_place : (rows : List (List ℕ)) (row found : List ℕ) (place : ℕ) (same : Bool) → slice_get rows place ≡ Some found → same ≡ bytes_eq found row → IsTrue same ↔ (slice_get rows place ≡ Some row)
+at_place rows row found place same r e =
     let is = bytes_eq-Decides found row in
-    let here : get_or rows n [] ≡ found = get_or_from_slice_get rows n found [] r in (
-      λ t. (n, slice_get_within rows n found r, get_or_from_slice_get rows n found row r ∙ is.0 (sym e ∙ t)),
-      λ m. e ∙ is.1 (sym here ∙ (found_at k rows row n s w long narrowed m).1),
+    let within : place < length rows = slice_get_within rows place found r in (
+      λ t. r ∙ ap Some (is.0 (sym e ∙ t)),
+      λ s. e ∙ is.1 (sym (get_or_from_slice_get rows place found [] r) ∙ get_or_from_slice_get rows place row [] s),
     )
 
--- past the end there is no such row
-pub has_past : (k : ℕ) (rows : List (List ℕ)) (row : List ℕ) (n : ℕ) (b : Bool) → IsAscending rows → All (λ r. length r ≡ k) rows → length row ≡ k → IsNarrowed (comes_before false row) rows n n → length rows ≤ n → b ≡ false → IsTrue b ↔ Contains rows row
-has_past k rows row n b s w long narrowed l e = (
+pub at_past : (rows : List (List ℕ)) (row : List ℕ) (place : ℕ) (b : Bool) → length rows ≤ place → b ≡ false → IsTrue b ↔ (slice_get rows place ≡ Some row)
+at_past rows row place b l e = (
   λ t. absurd (false≢true (sym e ∙ t)),
-  λ m. (let within = (found_at k rows row n s w long narrowed m).0 in absurd (omega arith)),
+  λ s. (let within = slice_get_within rows place row s in absurd (omega arith)),
 )
+
+-- a row that stands at a place is there
+pub there_at : (rows : List (List ℕ)) (row : List ℕ) (place : ℕ) → slice_get rows place ≡ Some row → Contains rows row
+there_at rows row place s = (place, slice_get_within rows place row s, get_or_from_slice_get rows place row row s)
+
+-- the row at the first place that doesn't come before a row decides whether the row is there
+pub has_at : (k : ℕ) (rows : List (List ℕ)) (row : List ℕ) (place : ℕ) (b : Bool) → IsAscending rows → All (λ r. length r ≡ k) rows → length row ≡ k → IsNarrowed (comes_before false row) rows place place → IsTrue b ↔ (slice_get rows place ≡ Some row) → IsTrue b ↔ Contains rows row
+has_at k rows row place b s w long narrowed at = (λ t. there_at rows row place (at.0 t), there)
+  where
+    there : Contains rows row → IsTrue b
+    there m =
+        let (within, e) = found_at k rows row place s w long narrowed m in
+        at.1 (slice_get-get_or rows place [] within ∙ ap Some e)

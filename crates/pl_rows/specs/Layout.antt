@@ -1,6 +1,8 @@
 -- How a table's rows lie in memory, and how a bisection narrows them.
 use Rattle.std.specs.Prelude.{◌≡◌, ◌*◌, ◌<◌, ◌≤◌, ◌^◌, ℕ, Bool, true, false, List, [], ◌∷◌, slice_index, length, take, All, if◌then◌else◌, slice_index_or}
 use Rattle.std.specs.Ordering.{is_lt, is_le}
+use Rattle.pl_rows.specs.declared.bisect.Bound.{Bound}
+use Rattle.pl_rows.specs.declared.bisect.Bound.TheVariants.{Below, AtMost}
 use Rattle.pl_rows.specs.Rows.{Rows, rows_of, row_cmp, IsAscending}
 
 -- the flat list has just these rows, and they are a table's
@@ -8,6 +10,11 @@ pub record IsLaidOut (arity count : ℕ) (flat : List ℕ) : Type 0 where
   pub whole : length flat ≡ arity * count
   pub ascending : IsAscending (rows_of arity count flat)
   pub values : All (λ value. value < 2 ^ 32) flat
+
+-- whether a bound takes the rows too that begin with the prefix
+abbrev pub takes_equal : Bound → Bool
+takes_equal Below = false
+takes_equal AtMost = true
 
 -- the row's first values are below the prefix, or at most the prefix
 abbrev pub comes_before : Bool → List ℕ → List ℕ → Bool

@@ -2,7 +2,7 @@
 
 ghost use Rattle.std.specs.Prelude.{◌≡◌, ◌↔◌, ◌*◌, ◌-◌, ◌<◌, ◌≤◌, length, IsTrue, Contains, slice_get, slice_range};
 ghost use Rattle.pl_rows.specs.Rows.{rows_of, IsAscending};
-ghost use Rattle.pl_rows.specs.Layout.{comes_before, IsNarrowed};
+ghost use Rattle.pl_rows.specs.Layout.{comes_before, takes_equal, IsNarrowed};
 
 use crate::range::Range;
 
@@ -30,7 +30,27 @@ pub fn rows_between(flat: &[u32], arity: usize, count: usize, range: Range) -> &
     &flat[arity * range.from..arity * range.to]
 }
 
-/// How many rows have first values that are below the prefix, or with `or_equal` at most the prefix.
+/// Which rows a bisection counts, by how their first values compare with a prefix.
+#[derive(Clone, Copy)]
+pub enum Bound {
+    /// Those whose first values are below the prefix.
+    Below,
+    /// Those whose first values are at most the prefix.
+    AtMost,
+}
+
+/// Whether a bound takes the rows too that begin with the prefix.
+#[inline]
+fn or_equal(bound: Bound) -> bool
+    ensures { result ≡ takes_equal bound }
+{
+    match bound {
+        Bound::Below => false,
+        Bound::AtMost => true,
+    }
+}
+
+/// How many rows the bound takes: those whose first values are below the prefix, or at most the prefix.
 ///
 /// That the rows before `low` are among them, and those from `high` on are not, is known.
 #[inline]
@@ -39,7 +59,7 @@ pub fn bisect(
     arity: usize,
     count: usize,
     prefix: &[u32],
-    or_equal: bool,
+    bound: Bound,
     mut low: usize,
     mut high: usize,
 ) -> usize
@@ -48,14 +68,16 @@ pub fn bisect(
     requires short { length prefix.now ≤ arity }
     requires in_order { low ≤ high }
     requires within { high ≤ count }
-    requires narrowed { IsNarrowed (comes_before or_equal prefix.now) (rows_of arity count flat.now) low high }
+    requires narrowed { IsNarrowed (comes_before (takes_equal bound) prefix.now)
+        (rows_of arity count flat.now) low high }
     ensures from { low ≤ result }
     ensures to { result ≤ high }
-    ensures narrowed { IsNarrowed (comes_before or_equal prefix.now) (rows_of arity count flat.now) result result }
+    ensures narrowed { IsNarrowed (comes_before (takes_equal bound) prefix.now)
+        (rows_of arity count flat.now) result result }
 {
     while low < high {
         let middle = low + (high - low) / 2;
-        if is_before(row_at(flat, arity, count, middle), prefix, or_equal) {
+        if is_before(row_at(flat, arity, count, middle), prefix, bound) {
             low = middle + 1;
         } else {
             high = middle;
@@ -64,17 +86,18 @@ pub fn bisect(
     low
 }
 
+/// Whether the bound takes the row: its first values are below the prefix, or at most the prefix.
 #[inline]
-fn is_before(row: &[u32], prefix: &[u32], or_equal: bool) -> bool
+pub fn is_before(row: &[u32], prefix: &[u32], bound: Bound) -> bool
     requires { length prefix.now ≤ length row.now }
-    ensures { result ≡ comes_before or_equal prefix.now row.now }
+    ensures { result ≡ comes_before (takes_equal bound) prefix.now row.now }
 {
     for i in 0..prefix.len() {
         if row[i] != prefix[i] {
             return row[i] < prefix[i];
         }
     }
-    or_equal
+    or_equal(bound)
 }
 
 /// Whether the rows in `flat` have the row.
@@ -85,6 +108,15 @@ pub fn has_row(flat: &[u32], arity: usize, count: usize, row: &[u32]) -> bool
     requires width { length row.now ≡ arity }
     ensures { IsTrue result ↔ Contains (rows_of arity count flat.now) row.now }
 {
-    let place = bisect(flat, arity, count, row, false, 0, count);
+    let place = bisect(flat, arity, count, row, Bound::Below, 0, count);
+    is_at(flat, arity, count, row, place)
+}
+
+/// Whether the row stands at this place, which may be any.
+#[inline]
+pub fn is_at(flat: &[u32], arity: usize, count: usize, row: &[u32], place: usize) -> bool
+    requires whole { length flat.now ≡ arity * count }
+    ensures { IsTrue result ↔ (slice_get (rows_of arity count flat.now) place ≡ Some row.now) }
+{
     place < count && row_at(flat, arity, count, place) == row
 }

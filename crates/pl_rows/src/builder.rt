@@ -1,6 +1,7 @@
 //! A table that is being made of rows of other tables.
 
-ghost use Rattle.std.specs.Prelude.{◌≡◌, ◌+◌, ◌*◌, ◌^◌, ◌-◌, ◌<◌, ◌≤◌, ◌++◌, ◌∷◌, [], length, take, IfOk, OnOk, slice_range};
+ghost use Rattle.std.specs.Prelude.{◌≡◌, ◌+◌, ◌*◌, ◌^◌, ◌-◌, ◌<◌, ◌≤◌, ◌++◌, ◌∷◌, [], length, take};
+ghost use Rattle.std.specs.Prelude.{IfOk, OnOk, slice_range};
 ghost use Rattle.pl_rows.specs.Rows.{rows_of, AreRows, IsAscending, SameRows};
 
 use crate::range::Range;

@@ -1,9 +1,12 @@
 //! A table that is looked up by the first values of its rows.
 
-ghost use Rattle.std.specs.Prelude.{◌≡◌, ◌↔◌, ◌+◌, ◌-◌, ◌<◌, ◌≤◌, ◌^◌, ◌++◌, ◌∷◌, [], List, ℕ, length, take, map, Contains, IsTrue, count_by, replicate, filter, slice_range, IfOk, IfSome, OnOk};
+ghost use Rattle.std.specs.Prelude.{◌≡◌, ◌↔◌, ◌+◌, ◌-◌, ◌<◌, ◌≤◌, ◌^◌, ◌++◌, ◌∷◌, [], List, ℕ};
+ghost use Rattle.std.specs.Prelude.{length, take, map, Contains, IsTrue, count_by, replicate};
+ghost use Rattle.std.specs.Prelude.{filter, slice_range, IfOk, IfSome, OnOk};
 ghost use Rattle.pl_rows.specs.Rows.{AreRowsOf, is_below, begins_with};
 ghost use Rattle.pl_rows.specs.Layout.{IsDirectory, IsBracket, IsFound};
 
+use crate::bisect::Bound;
 use crate::range::Range;
 use crate::table::Table;
 use pl_steps::Steps;
@@ -96,8 +99,8 @@ impl Indexed {
             }
         }
         let near = bracket(&self.table, &self.starts, key);
-        let from = self.table.bisected(key, false, near.from, near.to);
-        let to = self.table.bisected(key, true, from, near.to);
+        let from = self.table.bisected(key, Bound::Below, near.from, near.to);
+        let to = self.table.bisected(key, Bound::AtMost, from, near.to);
         Range { from, to }
     }
 

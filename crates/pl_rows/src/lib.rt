@@ -7,6 +7,7 @@ pub mod bisect;
 mod builder;
 mod indexed;
 pub mod laws;
+mod nearby;
 mod range;
 mod sort;
 mod table;

@@ -1,10 +1,13 @@
 //! A table: what callers make, ask and read.
 
-ghost use Rattle.std.specs.Prelude.{◌≡◌, ◌↔◌, ◌+◌, ◌*◌, ◌-◌, ◌<◌, ◌≤◌, ◌^◌, List, ℕ, length, count_by, IfOk, IsTrue, Contains, All, slice_get, slice_range, vec_len};
+ghost use Rattle.std.specs.Prelude.{◌≡◌, ◌↔◌, ◌+◌, ◌*◌, ◌-◌, ◌<◌, ◌≤◌, ◌^◌, List, ℕ, length};
+ghost use Rattle.std.specs.Prelude.{count_by, IfOk, IsTrue, Contains, All, slice_get, slice_range};
+ghost use Rattle.std.specs.Prelude.{vec_len};
 ghost use Rattle.pl_rows.specs.Rows.{rows_of, AreRows, IsAscending, SameRows, is_below, AreFirst};
-ghost use Rattle.pl_rows.specs.Layout.{IsNarrowed, comes_before};
+ghost use Rattle.pl_rows.specs.Layout.{IsNarrowed, comes_before, takes_equal};
 
-use crate::bisect::{bisect, has_row, row_at, rows_between};
+use crate::bisect::{Bound, bisect, has_row, row_at, rows_between};
+use crate::nearby::has_row_near;
 use crate::range::Range;
 use crate::sort::{are_ascending, sorted_rows};
 use pl_steps::Steps;
@@ -122,9 +125,11 @@ impl Table {
         row_at(&self.flat, self.arity as usize, self.count, i)
     }
 
-    /// The number of rows whose first values are below the prefix, in one probe: the place of the first row whose aren't.
+    /// The number of rows whose first values are below the prefix, in one probe: the place of the first row
+    /// whose aren't.
     ///
-    /// A prefix has any number of values up to the arity. No row is below the empty prefix. It takes `log n` comparisons.
+    /// A prefix has any number of values up to the arity. No row is below the empty prefix. It takes `log n`
+    /// comparisons.
     pub fn first_from<L: Ledger>(&self, prefix: &[u32], steps: &mut Steps<L>) -> usize
         requires { length prefix.now ≤ self.now.arity }
         ensures count { result ≡ count_by (is_below prefix.now) self.now.rows }
@@ -132,7 +137,7 @@ impl Table {
         ensures cost { steps.new ≡ steps.old + 1 }
     {
         steps.tick();
-        self.bisected(prefix, false, 0, self.count)
+        self.bisected(prefix, Bound::Below, 0, self.count)
     }
 
     /// Whether the table has the row, in one probe. It takes `log n` comparisons.
@@ -143,6 +148,21 @@ impl Table {
     {
         steps.tick();
         has_row(&self.flat, self.arity as usize, self.count, row)
+    }
+
+    /// Whether the table has the row, in one probe. The row is looked for from the place `near` on, which may
+    /// be any, and which is then where it stands or would stand.
+    ///
+    /// It takes about as many comparisons as the logarithm of how far that place is from `near`. So rows that
+    /// come in order are looked for in few comparisons each, and so are the values of one column that has no
+    /// gaps.
+    pub fn has_near<L: Ledger>(&self, row: &[u32], near: &mut usize, steps: &mut Steps<L>) -> bool
+        requires { length row.now ≡ self.now.arity }
+        ensures has { IsTrue result ↔ Contains self.now.rows row.now }
+        ensures cost { steps.new ≡ steps.old + 1 }
+    {
+        steps.tick();
+        has_row_near(&self.flat, self.arity as usize, self.count, row, near)
     }
 
     /// The values of the rows in a range of places, one row after another. It takes no probe.
@@ -156,24 +176,24 @@ impl Table {
         rows_between(&self.flat, self.arity as usize, self.count, range)
     }
 
-    /// How many rows have first values that are below the prefix, or with `or_equal` at most the prefix.
+    /// How many rows the bound takes: those whose first values are below the prefix, or at most the prefix.
     ///
     /// That the rows before `low` are among them, and those from `high` on are not, is known. It takes no probe.
-    pub(crate) fn bisected(&self, prefix: &[u32], or_equal: bool, low: usize, high: usize) -> usize
+    pub(crate) fn bisected(&self, prefix: &[u32], bound: Bound, low: usize, high: usize) -> usize
         requires short { length prefix.now ≤ self.now.arity }
         requires in_order { low ≤ high }
         requires within { high ≤ length self.now.rows }
-        requires narrowed { IsNarrowed (comes_before or_equal prefix.now) self.now.rows low high }
+        requires narrowed { IsNarrowed (comes_before (takes_equal bound) prefix.now) self.now.rows low high }
         ensures from { low ≤ result }
         ensures to { result ≤ high }
-        ensures narrowed { IsNarrowed (comes_before or_equal prefix.now) self.now.rows result result }
+        ensures narrowed { IsNarrowed (comes_before (takes_equal bound) prefix.now) self.now.rows result result }
     {
         bisect(
             &self.flat,
             self.arity as usize,
             self.count,
             prefix,
-            or_equal,
+            bound,
             low,
             high,
         )

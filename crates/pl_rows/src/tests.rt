@@ -1,6 +1,6 @@
 //! Rows and places that were worked out by hand.
 
-ghost use Rattle.std.specs.Prelude.{◌≡◌, ◌<◌};
+ghost use Rattle.std.specs.Prelude.{◌≡◌, ◌<◌, length};
 
 use crate::{Indexed, Range, Table, TableBuilder, laws};
 use pl_steps::Steps;
@@ -269,6 +269,19 @@ fn finds<L: Ledger>(
     Ok(indexed.find(asked.key, steps) == want)
 }
 
+/// Whether the table is found to have the asked row, or not to have it, from each place on.
+fn has_from_each_place<L: Ledger>(table: &Table, asked: &Asked, steps: &mut Steps<L>) -> bool
+    requires { length asked.now.key.now ≡ table.now.arity }
+{
+    for place in 0..9 {
+        let mut near = place;
+        if table.has_near(asked.key, &mut near, steps) != (asked.with == 1) {
+            return false;
+        }
+    }
+    true
+}
+
 fn is_answered<L: Ledger>(alloc: Global, asked: &Asked, blank: Blank) -> Result<bool, AllocError>
     requires name { blank.name ≡ L.name }
     requires parts { blank.parts ≡ L.parts }
@@ -282,8 +295,13 @@ fn is_answered<L: Ledger>(alloc: Global, asked: &Asked, blank: Blank) -> Result<
     if asked.key.len() > arity || table.first_from(asked.key, &mut steps) != asked.below {
         return Ok(false);
     }
-    if asked.key.len() == arity && table.has(asked.key, &mut steps) != (asked.with == 1) {
-        return Ok(false);
+    if asked.key.len() == arity {
+        if table.has(asked.key, &mut steps) != (asked.with == 1) {
+            return Ok(false);
+        }
+        if !has_from_each_place(&table, asked, &mut steps) {
+            return Ok(false);
+        }
     }
     finds(alloc, table, asked, &mut steps)
 }

@@ -10,7 +10,7 @@ ghost use Rattle.pl_state.specs.Changing.{HasRow, row_under, is_named, rows_betw
 use crate::count::as_word;
 use crate::effect::{names, next_effect, write_row};
 use crate::rows::Rows;
-use pl_rows::bisect::{bisect, row_at};
+use pl_rows::bisect::{Bound, bisect, row_at};
 use pl_task::Lifted;
 use std::alloc::AllocError;
 
@@ -76,7 +76,7 @@ fn merge_row(
         new.old.items new.new.items) }
     ensures few { IfOk result (λ r. r.1 ≤ count + 1) }
 {
-    let place = bisect(flat, arity, count, row, false, done, count);
+    let place = bisect(flat, arity, count, row, Bound::Below, done, count);
     copy_rows(new, flat, arity, count, done, place)?;
     let more = append_if(new, row, added)?;
     let next = behind_row(flat, arity, count, place, row);

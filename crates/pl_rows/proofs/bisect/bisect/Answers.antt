@@ -1,4 +1,5 @@
 use Rattle.std.proofs.Common.{arith, sym}
+use Rattle.pl_rows.specs.Layout.{takes_equal}
 use Rattle.pl_rows.proofs.Narrowing.{narrowed_up, narrowed_down, narrowed_end}
 use Rattle.pl_rows.proofs.bisect.bisect.Goals as goal
 
@@ -17,7 +18,7 @@ loop-low-preserved-then-is_before c = record {
   in_order = omega arith;
   from = omega arith;
   to = omega arith;
-  narrowed = narrowed_up c.args.or_equal c.args.prefix.now _ _ _ _ _ c.requires.ascending c.row_at.ensures.row (sym c.if-is_before.ensures) c.loop-low.invariant.narrowed;
+  narrowed = narrowed_up (takes_equal c.args.bound) c.args.prefix.now _ _ _ _ _ c.requires.ascending c.row_at.ensures.row (sym c.if-is_before.ensures) c.loop-low.invariant.narrowed;
 }
 
 pub loop-low-preserved : goal.loop-low-preserved
@@ -26,7 +27,7 @@ loop-low-preserved c = record {
   in_order = omega arith;
   from = omega arith;
   to = omega arith;
-  narrowed = narrowed_down c.args.or_equal c.args.prefix.now _ _ _ _ _ c.requires.ascending c.row_at.ensures.row (sym c.if-is_before.ensures) c.loop-low.invariant.narrowed;
+  narrowed = narrowed_down (takes_equal c.args.bound) c.args.prefix.now _ _ _ _ _ c.requires.ascending c.row_at.ensures.row (sym c.if-is_before.ensures) c.loop-low.invariant.narrowed;
 }
 
 pub returns-clause-narrowed : goal.returns-clause-narrowed
