@@ -10,7 +10,7 @@ use Rattle.std.proofs.lemmas.List.Kept.{IsStrictlySortedBy-filter}
 use Rattle.std.proofs.lemmas.Map.Keys.{sorted_tail}
 use Rattle.std.proofs.lemmas.Map.Views.{All-after_first}
 use Rattle.pl_rows.specs.Rows.{row_cmp, begins_with, IsAscending}
-use Rattle.pl_rows.proofs.Canonical.{Contains-cons_first, Contains-cons_rest}
+use Rattle.pl_rows.proofs.Canonical.{Contains-cons_first, Contains-cons_rest, ascending-none}
 use Rattle.pl_join.proofs.Members.{Contains-from_flat_map}
 use Rattle.pl_cursor.specs.Answers.{Stage, AreStages, answers, matching, grown, key_of, IsAnswer}
 use Rattle.pl_cursor.proofs.Chains.{members}
@@ -48,10 +48,6 @@ ascending-append (x ∷ xs) ys s t less =
 pub ascending-one : (row : List ℕ) → IsAscending (row ∷ [])
 unfolding IsStrictlySortedBy
 ascending-one row = (tt, tt)
-
-pub ascending-none : IsAscending []
-unfolding IsStrictlySortedBy
-ascending-none = tt
 
 -- ascending lists, one for each of some rows that ascend, each below those of the later rows
 pub ascending-flat_map : (F : List ℕ → List (List ℕ)) (rows : List (List ℕ)) → IsAscending rows →

@@ -4,7 +4,7 @@ use Rattle.std.proofs.lemmas.Bool.{cases_lt}
 use Rattle.std.proofs.lemmas.Bool.Decides.{nat_tests}
 use Rattle.std.proofs.lemmas.List.{drop_more, drop_all, length-append, length-drop, get_or-set_same, get_or-set_other, length-reverse}
 use Rattle.pl_reduce.specs.Nodes.{Node, ReducedJoin, node_at, new_classes}
-use Rattle.pl_reduce.specs.Walk.{walk_of, classes_met}
+use Rattle.pl_reduce.specs.Walk.{walk_of, classes_along}
 use Rattle.pl_reduce.specs.Reduced.{IsReduced}
 use Rattle.pl_cursor.specs.declared.layout.Seen.{Seen}
 use Rattle.pl_cursor.specs.declared.layout.Stop.{Stop}
@@ -16,7 +16,7 @@ use Rattle.pl_cursor.proofs.Stops.{narrow_join}
 -- the stops of the first steps of the walk are laid out, and what is left of the stages are those of the other steps
 pub record AreLaid (join : ReducedJoin) (stops : List Stop) (count from step : ℕ) : Type 0 where
   pub few : count ≤ from
-  pub fits : from + length (classes_met (drop step (walk_of join.nodes))) ≡ length join.classes
+  pub fits : from + length (classes_along (drop step (walk_of join.nodes))) ≡ length join.classes
   pub within : count ≤ length (stages_of join)
   pub rest : drop count (stages_of join) ≡ stages_from join.classes from (drop step (walk_of join.nodes))
   pub laid : (t : ℕ) → t < count → IsStop join (stage_at (stages_of join) t) (stop_at stops t)
@@ -32,10 +32,10 @@ laid_none join stops is = record {
 }
 
 -- what the node at a step says of the classes and the stages that are left
-step_fits : (from total step : ℕ) (walk : List Node) (node : Node) → drop step walk ≡ node ∷ drop (step + 1) walk → from + length (classes_met (drop step walk)) ≡ total → from + length (new_classes node) + length (classes_met (drop (step + 1) walk)) ≡ total
+step_fits : (from total step : ℕ) (walk : List Node) (node : Node) → drop step walk ≡ node ∷ drop (step + 1) walk → from + length (classes_along (drop step walk)) ≡ total → from + length (new_classes node) + length (classes_along (drop (step + 1) walk)) ≡ total
 step_fits from total step walk node e f =
-    let parts : length (classes_met (drop step walk)) ≡ length (new_classes node) + length (classes_met (drop (step + 1) walk)) =
-    ap (λ w. length (classes_met w)) e ∙ length-append (new_classes node) (classes_met (drop (step + 1) walk)) in
+    let parts : length (classes_along (drop step walk)) ≡ length (new_classes node) + length (classes_along (drop (step + 1) walk)) =
+    ap (λ w. length (classes_along w)) e ∙ length-append (new_classes node) (classes_along (drop (step + 1) walk)) in
     omega (arith, parts, f)
 
 pub laid_more : (join : ReducedJoin) (stops : List Stop) (count from step number arity : ℕ) → IsReduced join → AreLaid join stops count from step → number < length join.nodes →
@@ -60,7 +60,7 @@ laid_more join stops count from step number arity is laid l e a brought room =
     let fits = step_fits from (length join.classes) step walk node e laid.fits in
     record {
       few = omega (arith, laid.few);
-      fits = ap (λ n. from + n + length (classes_met (drop (step + 1) walk))) (sym more) ∙ fits;
+      fits = ap (λ n. from + n + length (classes_along (drop (step + 1) walk))) (sym more) ∙ fits;
       within = omega arith;
       rest = behind ∙ ap (λ n. stages_from join.classes (from + n) (drop (step + 1) walk)) more;
       laid = λ t h. elim (cases_lt t count) [

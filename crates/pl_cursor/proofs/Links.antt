@@ -14,7 +14,7 @@ use Rattle.pl_join.specs.Relation.{Assignment, AreDistinct, IsRelation, Holds, H
 use Rattle.pl_join.proofs.Assignments.{value_of, restored}
 use Rattle.pl_join.proofs.Members.{Contains-filter, Contains-from_filter}
 use Rattle.pl_reduce.specs.Nodes.{Node, ReducedJoin, relations_of, node_at, key_classes, new_classes}
-use Rattle.pl_reduce.specs.Walk.{walk_of, classes_met, GoesOn}
+use Rattle.pl_reduce.specs.Walk.{walk_of, classes_along, GoesOn}
 use Rattle.pl_reduce.specs.Reduced.{IsReduced, JoinHolds}
 use Rattle.pl_reduce.proofs.Walks.{from_walked, walk_holds, join_holds, none_held}
 use Rattle.pl_cursor.specs.Answers.{IsStage, AreStages, key_of, matching, grown, answers, IsAnswer}
@@ -48,11 +48,11 @@ shows b t = grind arith
 -- ---- a node of the walk
 
 -- the classes of a part of the walk stand in class order before those of the rest
-pub classes_split : (join : ReducedJoin) → IsReduced join → (before after : List Node) → walk_of join.nodes ≡ before ++ after → join.classes ≡ classes_met before ++ classes_met after
-classes_split join is before after e = is.order ∙ ap classes_met e ∙ flat_map-append new_classes before after
+pub classes_split : (join : ReducedJoin) → IsReduced join → (before after : List Node) → walk_of join.nodes ≡ before ++ after → join.classes ≡ classes_along before ++ classes_along after
+classes_split join is before after e = is.order ∙ ap classes_along e ∙ flat_map-append new_classes before after
 
-classes_more : (before : List Node) (node : Node) → classes_met (before ++ node ∷ []) ≡ classes_met before ++ new_classes node
-classes_more before node = flat_map-append new_classes before (node ∷ []) ∙ ap (λ cs. classes_met before ++ cs) (append-nil (new_classes node))
+classes_more : (before : List Node) (node : Node) → classes_along (before ++ node ∷ []) ≡ classes_along before ++ new_classes node
+classes_more before node = flat_map-append new_classes before (node ∷ []) ∙ ap (λ cs. classes_along before ++ cs) (append-nil (new_classes node))
 
 walked_node : (join : ReducedJoin) (before after : List Node) (node : Node) → walk_of join.nodes ≡ before ++ node ∷ after → Contains join.nodes node
 walked_node join before after node e =
@@ -86,21 +86,21 @@ key_values met rest (c ∷ keys) f h =
     λ i. here i ∷ others i
 
 -- the key of a node's stage is that of the node
-node_key : (join : ReducedJoin) → IsReduced join → (before after : List Node) (node : Node) (from : ℕ) (f : Assignment) → walk_of join.nodes ≡ before ++ node ∷ after → key_of (stage_of join.classes from node).keys (map f (classes_met before)) ≡ map f (key_classes node)
+node_key : (join : ReducedJoin) → IsReduced join → (before after : List Node) (node : Node) (from : ℕ) (f : Assignment) → walk_of join.nodes ≡ before ++ node ∷ after → key_of (stage_of join.classes from node).keys (map f (classes_along before)) ≡ map f (key_classes node)
 node_key join is before after node from f e =
-    ap (λ cs. key_of (map (place_in cs) (key_classes node)) (map f (classes_met before))) (classes_split join is before (node ∷ after) e)
-    ∙ key_values (classes_met before) (classes_met (node ∷ after)) (key_classes node) f (is.keys before after node e)
+    ap (λ cs. key_of (map (place_in cs) (key_classes node)) (map f (classes_along before))) (classes_split join is before (node ∷ after) e)
+    ∙ key_values (classes_along before) (classes_along (node ∷ after)) (key_classes node) f (is.keys before after node e)
 
 pub length-stage_keys : (classes : List ℕ) (from : ℕ) (node : Node) → node.width ≤ length node.relation.classes → length (stage_of classes from node).keys ≡ node.width
 length-stage_keys classes from node l = length-map (key_classes node) (place_in classes) ∙ length-take-le node.width node.relation.classes l
 
 -- ---- the stages follow one another
 
-node_stage : (join : ReducedJoin) → IsReduced join → (before after : List Node) (node : Node) (from : ℕ) → walk_of join.nodes ≡ before ++ node ∷ after → from ≡ length (classes_met before) → IsStage (stage_of join.classes from node) from (length (new_classes node))
+node_stage : (join : ReducedJoin) → IsReduced join → (before after : List Node) (node : Node) (from : ℕ) → walk_of join.nodes ≡ before ++ node ∷ after → from ≡ length (classes_along before) → IsStage (stage_of join.classes from node) from (length (new_classes node))
 node_stage join is before after node from e l = record {
   from = refl;
-  keys = rw l (subst (λ cs. All (λ k. k < length (classes_met before)) (map (place_in cs) (key_classes node))) (sym (classes_split join is before (node ∷ after) e))
-      (keys_below (classes_met before) (classes_met (node ∷ after)) (key_classes node) (is.keys before after node e)));
+  keys = rw l (subst (λ cs. All (λ k. k < length (classes_along before)) (map (place_in cs) (key_classes node))) (sym (classes_split join is before (node ∷ after) e))
+      (keys_below (classes_along before) (classes_along (node ∷ after)) (key_classes node) (is.keys before after node e)));
   rows = (let wide = node_width join is before after node e in
       let long : length node.relation.classes ≡ length (stage_of join.classes from node).keys + length (new_classes node) =
       omega (arith, length-stage_keys join.classes from node wide, length-drop node.width node.relation.classes) in
@@ -110,11 +110,11 @@ node_stage join is before after node from e l = record {
 brings_none : (node : Node) → brings node ≡ false → length (new_classes node) ≡ 0
 brings_none node n = grind (arith, nat_tests, length-drop node.width node.relation.classes)
 
-follow : (join : ReducedJoin) → IsReduced join → (before after : List Node) (from : ℕ) → walk_of join.nodes ≡ before ++ after → from ≡ length (classes_met before) → AreStages (stages_from join.classes from after) from (length join.classes)
-follow join is before [] from e l = l ∙ sym (ap length (classes_split join is before [] e ∙ append-nil (classes_met before)))
+follow : (join : ReducedJoin) → IsReduced join → (before after : List Node) (from : ℕ) → walk_of join.nodes ≡ before ++ after → from ≡ length (classes_along before) → AreStages (stages_from join.classes from after) from (length join.classes)
+follow join is before [] from e l = l ∙ sym (ap length (classes_split join is before [] e ∙ append-nil (classes_along before)))
 follow join is before (node ∷ after) from e l =
-    let more : length (classes_met (before ++ node ∷ [])) ≡ length (classes_met before) + length (new_classes node) =
-    ap length (classes_more before node) ∙ length-append (classes_met before) (new_classes node) in
+    let more : length (classes_along (before ++ node ∷ [])) ≡ length (classes_along before) + length (new_classes node) =
+    ap length (classes_more before node) ∙ length-append (classes_along before) (new_classes node) in
     elim (cases_Bool (brings node)) [
       | inl y ↦ rw y (
         length (new_classes node),
@@ -154,7 +154,7 @@ IsFilled join = (root : Node) (others : List Node) → join.nodes ≡ root ∷ o
 
 -- an assignment under which the classes that some nodes brought have these values is one of each of the nodes
 abbrev IsHeld : List Node → List ℕ → Type 0
-IsHeld nodes values = (f : Assignment) → map f (classes_met nodes) ≡ values → HoldsAll (relations_of nodes) f
+IsHeld nodes values = (f : Assignment) → map f (classes_along nodes) ≡ values → HoldsAll (relations_of nodes) f
 
 no_key : (node : Node) → All (Contains []) (key_classes node) → key_classes node ≡ []
 no_key node h = none (key_classes node) h
@@ -200,7 +200,7 @@ held_and before node f h k =
     (All-cons (λ relation. Holds relation f) node.relation [] k (All-nil (λ relation. Holds relation f))))
 
 -- a row that goes on with the values of the nodes before it
-row_key : (join : ReducedJoin) → IsReduced join → (before after : List Node) (node : Node) (from : ℕ) (f : Assignment) (values row : List ℕ) → walk_of join.nodes ≡ before ++ node ∷ after → map f (classes_met before) ≡ values → Contains (matching (stage_of join.classes from node) values) row → Contains node.relation.rows row × (take node.width row ≡ map f (key_classes node))
+row_key : (join : ReducedJoin) → IsReduced join → (before after : List Node) (node : Node) (from : ℕ) (f : Assignment) (values row : List ℕ) → walk_of join.nodes ≡ before ++ node ∷ after → map f (classes_along before) ≡ values → Contains (matching (stage_of join.classes from node) values) row → Contains node.relation.rows row × (take node.width row ≡ map f (key_classes node))
 row_key join is before after node from f values row e same h =
     let key : List ℕ = key_of (stage_of join.classes from node).keys values in
     let (held, begins) = Contains-from_filter (begins_with key) node.relation.rows row h in
@@ -209,12 +209,12 @@ row_key join is before after node from f values row e same h =
     let long : length key ≡ node.width = length-map (stage_of join.classes from node).keys (slice_index values) ∙ length-stage_keys join.classes from node (node_width join is before after node e) in
     (held, ap (λ n. take n row) (sym long) ∙ front ∙ key_same)
 
-held_more : (join : ReducedJoin) → IsReduced join → (before after : List Node) (node : Node) (from : ℕ) (values row : List ℕ) → walk_of join.nodes ≡ before ++ node ∷ after → length values ≡ length (classes_met before) → IsHeld before values → Contains (matching (stage_of join.classes from node) values) row → IsHeld (before ++ node ∷ []) (grown (stage_of join.classes from node) values row)
+held_more : (join : ReducedJoin) → IsReduced join → (before after : List Node) (node : Node) (from : ℕ) (values row : List ℕ) → walk_of join.nodes ≡ before ++ node ∷ after → length values ≡ length (classes_along before) → IsHeld before values → Contains (matching (stage_of join.classes from node) values) row → IsHeld (before ++ node ∷ []) (grown (stage_of join.classes from node) values row)
 held_more join is before after node from values row e long held h f same =
     let width : length (stage_of join.classes from node).keys ≡ node.width = length-stage_keys join.classes from node (node_width join is before after node e) in
-    let parts : map f (classes_met before) ++ map f (new_classes node) ≡ values ++ drop node.width row =
-    sym (map-append f (classes_met before) (new_classes node)) ∙ ap (map f) (sym (classes_more before node)) ∙ same ∙ ap (λ n. values ++ drop n row) width in
-    let (front, new) = split_same (map f (classes_met before)) (map f (new_classes node)) values (drop node.width row) (length-map (classes_met before) f ∙ sym long) parts in
+    let parts : map f (classes_along before) ++ map f (new_classes node) ≡ values ++ drop node.width row =
+    sym (map-append f (classes_along before) (new_classes node)) ∙ ap (map f) (sym (classes_more before node)) ∙ same ∙ ap (λ n. values ++ drop n row) width in
+    let (front, new) = split_same (map f (classes_along before)) (map f (new_classes node)) values (drop node.width row) (length-map (classes_along before) f ∙ sym long) parts in
     let (among, key) = row_key join is before after node from f values row e front h in
     held_and before node f (held f front) (node_held node f row among key (sym new))
 
@@ -222,7 +222,7 @@ held_more join is before after node from values row e long held h f same =
 held_same : (join : ReducedJoin) → IsReduced join → IsFilled join → (before after : List Node) (node : Node) (values : List ℕ) → walk_of join.nodes ≡ before ++ node ∷ after → length (new_classes node) ≡ 0 → IsHeld before values → IsHeld (before ++ node ∷ []) values
 held_same join is filled before after node values e none held f same =
     let nothing : new_classes node ≡ [] = nil_from_length (new_classes node) none in
-    let front : map f (classes_met before) ≡ values = ap (map f) (sym (classes_more before node ∙ ap (λ cs. classes_met before ++ cs) nothing ∙ append-nil (classes_met before))) ∙ same in
+    let front : map f (classes_along before) ≡ values = ap (map f) (sym (classes_more before node ∙ ap (λ cs. classes_along before ++ cs) nothing ∙ append-nil (classes_along before))) ∙ same in
     let there : HoldsAll (relations_of before) f = held f front in
     let (row, among, begins) = passing (begins_with (map f (key_classes node))) node.relation.rows (goes_on_walk join is filled before after node f e there) in
     let key : take (length (map f (key_classes node))) row ≡ map f (key_classes node) = (bytes_eq-Decides (take (length (map f (key_classes node))) row) (map f (key_classes node))).0 begins in
@@ -234,19 +234,19 @@ held_same join is filled before after node values e none held f same =
     (node_held node f row among (ap (λ n. take n row) (sym long) ∙ key) (drop_all node.width row whole ∙ sym (ap (map f) nothing)))
 
 -- an assignment with these values
-with_values : (join : ReducedJoin) → IsReduced join → (before after : List Node) (values : List ℕ) → walk_of join.nodes ≡ before ++ after → length values ≡ length (classes_met before) → map (value_of (classes_met before) values) (classes_met before) ≡ values
+with_values : (join : ReducedJoin) → IsReduced join → (before after : List Node) (values : List ℕ) → walk_of join.nodes ≡ before ++ after → length values ≡ length (classes_along before) → map (value_of (classes_along before) values) (classes_along before) ≡ values
 with_values join is before after values e long =
-    restored (classes_met before) values (front_distinct (classes_met before) (classes_met after) (subst AreDistinct (classes_split join is before after e) is.distinct)) long
+    restored (classes_along before) values (front_distinct (classes_along before) (classes_along after) (subst AreDistinct (classes_split join is before after e) is.distinct)) long
   where
     front_distinct : (xs ys : List ℕ) → AreDistinct (xs ++ ys) → AreDistinct xs
     front_distinct xs ys d i j k l m same =
         d i j k l (omega (arith, length-append xs ys)) (get_or_append_left xs ys k i (omega arith) ∙ same ∙ sym (get_or_append_left xs ys k j m))
 
-never_from : (join : ReducedJoin) → IsReduced join → IsFilled join → (before after : List Node) (from : ℕ) (values : List ℕ) → walk_of join.nodes ≡ before ++ after → from ≡ length (classes_met before) → length values ≡ from → IsHeld before values → NeverEnds (stages_from join.classes from after) values
+never_from : (join : ReducedJoin) → IsReduced join → IsFilled join → (before after : List Node) (from : ℕ) (values : List ℕ) → walk_of join.nodes ≡ before ++ after → from ≡ length (classes_along before) → length values ≡ from → IsHeld before values → NeverEnds (stages_from join.classes from after) values
 never_from join is filled before [] from values e l long held = tt
 never_from join is filled before (node ∷ after) from values e l long held =
-    let more : length (classes_met (before ++ node ∷ [])) ≡ length (classes_met before) + length (new_classes node) =
-    ap length (classes_more before node) ∙ length-append (classes_met before) (new_classes node) in
+    let more : length (classes_along (before ++ node ∷ [])) ≡ length (classes_along before) + length (new_classes node) =
+    ap length (classes_more before node) ∙ length-append (classes_along before) (new_classes node) in
     elim (cases_Bool (brings node)) [
       | inl y ↦ rw y (
         any,
@@ -261,9 +261,9 @@ never_from join is filled before (node ∷ after) from values e l long held =
     ]
   where
     f : Assignment
-    f = value_of (classes_met before) values
+    f = value_of (classes_along before) values
 
-    same : map f (classes_met before) ≡ values
+    same : map f (classes_along before) ≡ values
     same = with_values join is before (node ∷ after) values e (long ∙ l)
 
     any : IsTrue (list_any (begins_with (key_of (stage_of join.classes from node).keys values)) node.relation.rows)
@@ -281,12 +281,12 @@ never_ends join is filled = never_from join is filled [] (walk_of join.nodes) 0 
 -- ---- the answers are those of the join
 
 -- a chain of rows gives an answer that each node holds
-chain_held : (join : ReducedJoin) → IsReduced join → IsFilled join → (before after : List Node) (from : ℕ) (values answer : List ℕ) → walk_of join.nodes ≡ before ++ after → from ≡ length (classes_met before) → length values ≡ from → IsHeld before values → IsAnswer (stages_from join.classes from after) values answer → IsHeld (walk_of join.nodes) answer
+chain_held : (join : ReducedJoin) → IsReduced join → IsFilled join → (before after : List Node) (from : ℕ) (values answer : List ℕ) → walk_of join.nodes ≡ before ++ after → from ≡ length (classes_along before) → length values ≡ from → IsHeld before values → IsAnswer (stages_from join.classes from after) values answer → IsHeld (walk_of join.nodes) answer
 chain_held join is filled before [] from values answer e l long held same =
     subst (λ walk. IsHeld walk answer) (sym (e ∙ append-nil before)) (subst (IsHeld before) (sym same) held)
 chain_held join is filled before (node ∷ after) from values answer e l long held chain =
-    let more : length (classes_met (before ++ node ∷ [])) ≡ length (classes_met before) + length (new_classes node) =
-    ap length (classes_more before node) ∙ length-append (classes_met before) (new_classes node) in
+    let more : length (classes_along (before ++ node ∷ [])) ≡ length (classes_along before) + length (new_classes node) =
+    ap length (classes_more before node) ∙ length-append (classes_along before) (new_classes node) in
     elim (cases_Bool (brings node)) [
       | inl y ↦ (
           let (row, h, rest) = given y in
@@ -304,8 +304,8 @@ chain_held join is filled before (node ∷ after) from values answer e l long he
     given y = rw y at chain
 
 -- an assignment of the join is a chain of rows
-join_chain : (join : ReducedJoin) → IsReduced join → (before after : List Node) (from : ℕ) (f : Assignment) → walk_of join.nodes ≡ before ++ after → HoldsAll (relations_of after) f → IsAnswer (stages_from join.classes from after) (map f (classes_met before)) (map f join.classes)
-join_chain join is before [] from f e held = ap (map f) (classes_split join is before [] e ∙ append-nil (classes_met before))
+join_chain : (join : ReducedJoin) → IsReduced join → (before after : List Node) (from : ℕ) (f : Assignment) → walk_of join.nodes ≡ before ++ after → HoldsAll (relations_of after) f → IsAnswer (stages_from join.classes from after) (map f (classes_along before)) (map f join.classes)
+join_chain join is before [] from f e held = ap (map f) (classes_split join is before [] e ∙ append-nil (classes_along before))
 join_chain join is before (node ∷ after) from f e held =
     let behind : HoldsAll (relations_of after) f = All-tail (λ relation. Holds relation f) node.relation (relations_of after) held in
     elim (cases_Bool (brings node)) [
@@ -331,27 +331,27 @@ join_chain join is before (node ∷ after) from f e held =
     long : length (map f (key_classes node)) ≡ node.width
     long = length-map (key_classes node) f ∙ length-take-le node.width node.relation.classes narrow
 
-    matches : Contains (matching (stage_of join.classes from node) (map f (classes_met before))) row
+    matches : Contains (matching (stage_of join.classes from node) (map f (classes_along before))) row
     matches =
-        let key : key_of (stage_of join.classes from node).keys (map f (classes_met before)) ≡ map f (key_classes node) = node_key join is before after node from f e in
+        let key : key_of (stage_of join.classes from node).keys (map f (classes_along before)) ≡ map f (key_classes node) = node_key join is before after node from f e in
         let begins : begins_with (map f (key_classes node)) row ≡ true = (bytes_eq-Decides (take (length (map f (key_classes node))) row) (map f (key_classes node))).1
         (ap (take (length (map f (key_classes node)))) parts ∙ take_at (map f (key_classes node)) (map f (new_classes node)) (length (map f (key_classes node))) refl) in
         let there : Contains node.relation.rows row = All-head (λ relation. Holds relation f) node.relation (relations_of after) held in
         subst (λ k. Contains (filter (begins_with k) node.relation.rows) row) (sym key) (Contains-filter (begins_with (map f (key_classes node))) node.relation.rows row there begins)
 
-    brought : grown (stage_of join.classes from node) (map f (classes_met before)) row ≡ map f (classes_met (before ++ node ∷ []))
+    brought : grown (stage_of join.classes from node) (map f (classes_along before)) row ≡ map f (classes_along (before ++ node ∷ []))
     brought =
         let width : length (stage_of join.classes from node).keys ≡ node.width = length-stage_keys join.classes from node narrow in
-        ap (λ n. map f (classes_met before) ++ drop n row) width
-        ∙ ap (λ r. map f (classes_met before) ++ drop node.width r) parts
-        ∙ ap (λ r. map f (classes_met before) ++ r) (drop_at (map f (key_classes node)) (map f (new_classes node)) node.width long)
-        ∙ sym (map-append f (classes_met before) (new_classes node))
+        ap (λ n. map f (classes_along before) ++ drop n row) width
+        ∙ ap (λ r. map f (classes_along before) ++ drop node.width r) parts
+        ∙ ap (λ r. map f (classes_along before) ++ r) (drop_at (map f (key_classes node)) (map f (new_classes node)) node.width long)
+        ∙ sym (map-append f (classes_along before) (new_classes node))
         ∙ ap (map f) (sym (classes_more before node))
 
-    same_values : brings node ≡ false → map f (classes_met (before ++ node ∷ [])) ≡ map f (classes_met before)
+    same_values : brings node ≡ false → map f (classes_along (before ++ node ∷ [])) ≡ map f (classes_along before)
     same_values n =
         let nothing : new_classes node ≡ [] = nil_from_length (new_classes node) (brings_none node n) in
-        ap (map f) (classes_more before node ∙ ap (λ cs. classes_met before ++ cs) nothing ∙ append-nil (classes_met before))
+        ap (map f) (classes_more before node ∙ ap (λ cs. classes_along before ++ cs) nothing ∙ append-nil (classes_along before))
 
 -- the answers of the stages are those of the join
 pub answers_of : (join : ReducedJoin) → IsReduced join → IsFilled join → (row : List ℕ) → Contains (answers (stages_of join) []) row ↔ IsAnswerOf join row

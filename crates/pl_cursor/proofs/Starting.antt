@@ -4,7 +4,7 @@ use Rattle.std.proofs.lemmas.List.{take_all, get_or-set_same, append-nil}
 use Rattle.std.proofs.lemmas.List.Elements.{All-head}
 use Rattle.std.proofs.lemmas.List.Kept.{IsStrictlySortedBy-filter}
 use Rattle.pl_rows.specs.Rows.{begins_with, row_cmp}
-use Rattle.pl_rows.proofs.Canonical.{Contains-nil}
+use Rattle.pl_rows.proofs.Canonical.{Contains-nil, ascending-none}
 use Rattle.pl_join.specs.Relation.{Assignment}
 use Rattle.pl_join.proofs.Members.{Contains-filter, Contains-from_filter}
 use Rattle.pl_reduce.specs.Nodes.{ReducedJoin}
@@ -13,7 +13,7 @@ use Rattle.pl_cursor.specs.Answers.{Stage, Frame, AreStages, key_of, matching, a
 use Rattle.pl_cursor.specs.Stages.{stages_of}
 use Rattle.pl_cursor.specs.Cursor.{AreAnswersPast}
 use Rattle.pl_cursor.specs.Kept.{NeverEnds, IsFrame, IsEntered, IsPosition}
-use Rattle.pl_cursor.proofs.Ascent.{ascending, ascending-none}
+use Rattle.pl_cursor.proofs.Ascent.{ascending}
 use Rattle.pl_cursor.proofs.Seeking.{filter-all}
 use Rattle.pl_cursor.proofs.Links.{IsFilled, stages_laid, never_ends, answers_of}
 

@@ -20,7 +20,7 @@ bits_of edges e c = bit_at (slice_index edges e) c
 served : (edges remaining : List ℕ) (e f : ℕ) → IsEar edges remaining e f → Served (bits_of edges) (Contains remaining) e f
 served edges remaining e f ear = record {
   ear = ear.edge_remains;
-  server = ear.parent_remains;
+  parent_remains = ear.parent_remains;
   apart = ear.apart;
   serves = ear.serves;
 }
@@ -28,7 +28,7 @@ served edges remaining e f ear = record {
 is_ear : (edges remaining : List ℕ) (e f : ℕ) → Served (bits_of edges) (Contains remaining) e f → IsEar edges remaining e f
 is_ear edges remaining e f s = record {
   edge_remains = s.ear;
-  parent_remains = s.server;
+  parent_remains = s.parent_remains;
   apart = s.apart;
   serves = s.serves;
 }

@@ -2,7 +2,11 @@
 use Rattle.std.proofs.Common.{◌≡◌, ◌≢◌, ℕ, ◌<◌, ◌⊎◌, ◌↔◌, min, max, sym, ◌∙◌, subst, inl, inr, arith}
 use Rattle.std.specs.Prelude.{bit_and, bit_or}
 use Rattle.std.specs.Int.{bit_at}
-use Rattle.std.proofs.lemmas.Nat.Bits.{bit_at_and, bit_at_or, bit_at-lt, same_from_bits}
+use Rattle.std.proofs.lemmas.Nat.Bits.{bit_at_and, bit_at_or, bit_at-lt, bit_at-zero, same_from_bits}
+
+-- no class is in the empty set
+pub no_bit : (c : ℕ) → bit_at 0 c ≡ 1 → ⊥
+no_bit c h = let none = bit_at-zero c in absurd (omega (arith, sym none ∙ h))
 
 min_one : (x y : ℕ) → min x y ≡ 1 → y < 2 → x < 2 → (x ≡ 1) × (y ≡ 1)
 min_one x y e h k = (omega arith, omega arith)

@@ -7,6 +7,7 @@ use Rattle.std.proofs.lemmas.List.{reverse-append, get_or-append_right, get_or_a
 use Rattle.std.proofs.lemmas.List.Concat.{flat_map-append}
 use Rattle.std.proofs.lemmas.List.Elements.{Contains-append_left, Contains-append_right, Contains-append_cases, Contains-get_or}
 use Rattle.std.proofs.lemmas.Nat.Bits.{bit_at_above}
+use Rattle.std.proofs.lemmas.Bool.{cases_lt}
 use Rattle.pl_hyper.specs.declared.ear.Ear.{Ear}
 use Rattle.pl_hyper.specs.Edges.{edge_numbers}
 use Rattle.pl_hyper.specs.Ears.{Removal, IsRemoval}
@@ -85,9 +86,6 @@ below_64 : (n class : ℕ) → n < 2 ^ 64 → bit_at n class ≡ 1 → (class < 
 below_64 n class small h (inl k) = k
 below_64 n class small h (inr k) = let none = bit_at_above n 64 class small k in absurd (omega (arith, sym none ∙ h))
 
-low_or_high : (a b : ℕ) → (a < b) ⊎ (b ≤ a)
-low_or_high a b = grind arith
-
 class_order-classes : (plan : Removal) → IsRemoval plan → ((e : ℕ) → slice_index plan.edges e < 2 ^ 64) → (class : ℕ) → Contains (class_order plan) class ↔ IsClass plan.edges class
 class_order-classes plan r small class = (
   λ h.
@@ -96,7 +94,7 @@ class_order-classes plan r small class = (
   λ (e, h, holds).
       first_contains (met_by plan.edges (walk_order plan)) class
       (met_contains plan.edges (walk_order plan) e class (walk_contains plan r e h)
-      (classes_contain (slice_index plan.edges e) class (below_64 (slice_index plan.edges e) class (small e) holds (low_or_high class 64)) holds)),
+      (classes_contain (slice_index plan.edges e) class (below_64 (slice_index plan.edges e) class (small e) holds (cases_lt class 64)) holds)),
 )
 
 -- ---- the classes of a front of the walk
@@ -141,10 +139,10 @@ class_order-walked plan walked rest i j w h k held lacks =
     let low_class = class_order-below plan i 0 h in
     let first : i < length front =
     behind front back xs i (not_twice xs (first_appearances (met_by plan.edges rest))) (subst (λ zs. i < length zs) is h)
-    (subst (λ zs. Contains xs (get_or zs i 0)) is (in_walked plan.edges walked (get_or (class_order plan) i 0) low_class held)) (low_or_high i (length front)) in
+    (subst (λ zs. Contains xs (get_or zs i 0)) is (in_walked plan.edges walked (get_or (class_order plan) i 0) low_class held)) (cases_lt i (length front)) in
     let second : length front ≤ j =
     before front back xs j (within_first xs)
-    (subst (λ zs. Contains xs (get_or zs j 0) → ⊥) is (λ m. lacks (walked_in plan.edges walked (get_or (class_order plan) j 0) m))) (low_or_high j (length front)) in
+    (subst (λ zs. Contains xs (get_or zs j 0) → ⊥) is (λ m. lacks (walked_in plan.edges walked (get_or (class_order plan) j 0) m))) (cases_lt j (length front)) in
     omega arith
 
 -- what is said of a list that is the order of the classes

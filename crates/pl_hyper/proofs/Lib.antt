@@ -4,8 +4,8 @@ pub mod Removals
 pub mod Members
 pub mod Orders
 pub mod Rising
--- sets of classes as bits
-mod Bits
+-- for the crates above: sets of classes as bits
+pub mod Bits
 -- trees and ears: how an ear is taken out of a tree and put back, and a join tree exactly where one edge stays
 mod Trees
 mod Acyclic

@@ -1,4 +1,4 @@
--- The search for the next ear: the classes that are shared, the servers of an edge, and where no ear stands.
+-- The search for the next ear: the classes that are shared, the parents of an edge, and where no ear stands.
 use Rattle.std.proofs.Common.{◌≡◌, ◌≢◌, ℕ, ◌+◌, ◌<◌, ◌≤◌, ◌⊎◌, ◌↔◌, List, length, get_or, sym, ap, ◌∙◌, subst, inl, inr, arith}
 use Rattle.std.specs.Prelude.{bit_and, bit_or, slice_index}
 use Rattle.std.specs.Int.{bit_at}
@@ -8,12 +8,9 @@ use Rattle.std.proofs.lemmas.List.Elements.{Contains-get_or}
 use Rattle.std.proofs.lemmas.Nat.Bits.{bit_at-zero}
 use Rattle.pl_hyper.specs.Edges.{Holds}
 use Rattle.pl_hyper.specs.Ears.{IsEar, without}
-use Rattle.pl_hyper.specs.Search.{IsShared, AreShared, IsServer, IsFirstServer, IsEarAt}
+use Rattle.pl_hyper.specs.Search.{IsShared, AreShared, IsParent, IsFirstParent, IsEarAt}
 use Rattle.pl_hyper.proofs.Members.{same_or_not, within_without}
-use Rattle.pl_hyper.proofs.Bits.{and_bit, or_bit}
-
-no_bit : (c : ℕ) → bit_at 0 c ≡ 1 → ⊥
-no_bit c h = let none = bit_at-zero c in absurd (omega (arith, sym none ∙ h))
+use Rattle.pl_hyper.proofs.Bits.{and_bit, or_bit, no_bit}
 
 either : {A B C D : Type 0} → (A → C) → (B → D) → A ⊎ B → C ⊎ D
 either f g (inl a) = inl (f a)
@@ -126,11 +123,11 @@ pub seen_all : (edges remaining : List ℕ) (once twice : ℕ) → AllPairs (λ 
 seen_all edges remaining once twice up a c =
     (λ h. shared_from_seen edges remaining c up ((a.twice_is c).0 h), λ s. (a.twice_is c).1 (seen_from_shared edges remaining c s (in_order s.one_remains.0 s.other_remains.0)))
 
--- ---- servers
+-- ---- parents
 
 -- what serves the classes that an edge shares serves the edge
-pub ear_from_server : (edges remaining : List ℕ) (shared e f : ℕ) → AreShared edges remaining shared → Contains remaining e → IsServer edges remaining e (bit_and (slice_index edges e) shared) f → IsEar edges remaining e f
-ear_from_server edges remaining shared e f a h s = record {
+pub ear_from_parent : (edges remaining : List ℕ) (shared e f : ℕ) → AreShared edges remaining shared → Contains remaining e → IsParent edges remaining e (bit_and (slice_index edges e) shared) f → IsEar edges remaining e f
+ear_from_parent edges remaining shared e f a h s = record {
   edge_remains = h;
   parent_remains = s.remains;
   apart = s.apart;
@@ -142,8 +139,8 @@ shared_with : (edges remaining : List ℕ) (e f c : ℕ) → IsEar edges remaini
 shared_with edges remaining e f c ear s h (inl q) = ear.serves c s.other s.other_remains (λ k. s.apart (q ∙ sym k)) h s.other_holds
 shared_with edges remaining e f c ear s h (inr d) = ear.serves c s.one s.one_remains d h s.one_holds
 
-pub server_from_ear : (edges remaining : List ℕ) (shared e f : ℕ) → AreShared edges remaining shared → IsEar edges remaining e f → IsServer edges remaining e (bit_and (slice_index edges e) shared) f
-server_from_ear edges remaining shared e f a ear = record {
+pub parent_from_ear : (edges remaining : List ℕ) (shared e f : ℕ) → AreShared edges remaining shared → IsEar edges remaining e f → IsParent edges remaining e (bit_and (slice_index edges e) shared) f
+parent_from_ear edges remaining shared e f a ear = record {
   remains = ear.parent_remains;
   apart = ear.apart;
   serves = λ c h.
@@ -157,26 +154,26 @@ server_from_ear edges remaining shared e f a ear = record {
 -- an edge that is an ear after another was removed was one before, if the shared classes are the same
 pub ear_before : (edges remaining : List ℕ) (gone shared e f : ℕ) → AreShared edges remaining shared → AreShared edges (without gone remaining) shared → IsEar edges (without gone remaining) e f → IsEar edges remaining e f
 ear_before edges remaining gone shared e f a b ear =
-    let server = server_from_ear edges (without gone remaining) shared e f b ear in
-    ear_from_server edges remaining shared e f a (within_without gone remaining e ear.edge_remains).0 (record {
-      remains = (within_without gone remaining f server.remains).0;
-      apart = server.apart;
-      serves = server.serves;
+    let parent = parent_from_ear edges (without gone remaining) shared e f b ear in
+    ear_from_parent edges remaining shared e f a (within_without gone remaining e ear.edge_remains).0 (record {
+      remains = (within_without gone remaining f parent.remains).0;
+      apart = parent.apart;
+      serves = parent.serves;
     })
 
 -- ---- the first ear from a place on
 
-pub IsEarAt-server : (edges remaining : List ℕ) (from place shared f : ℕ) → AreShared edges remaining shared → place < length remaining → IsFirstServer edges remaining (get_or remaining place 0) (bit_and (slice_index edges (get_or remaining place 0)) shared) f → ((k g : ℕ) → from ≤ k → k < place → IsEar edges remaining (get_or remaining k 0) g → ⊥) → IsEarAt edges remaining from place f
-IsEarAt-server edges remaining from place shared f a h s none = record {
+pub IsEarAt-parent : (edges remaining : List ℕ) (from place shared f : ℕ) → AreShared edges remaining shared → place < length remaining → IsFirstParent edges remaining (get_or remaining place 0) (bit_and (slice_index edges (get_or remaining place 0)) shared) f → ((k g : ℕ) → from ≤ k → k < place → IsEar edges remaining (get_or remaining k 0) g → ⊥) → IsEarAt edges remaining from place f
+IsEarAt-parent edges remaining from place shared f a h s none = record {
   within = h;
-  is_ear = ear_from_server edges remaining shared (get_or remaining place 0) f a (Contains-get_or remaining place 0 h) s.is_server;
-  least_parent = λ g ear. s.least g (server_from_ear edges remaining shared (get_or remaining place 0) g a ear);
+  is_ear = ear_from_parent edges remaining shared (get_or remaining place 0) f a (Contains-get_or remaining place 0 h) s.is_parent;
+  least_parent = λ g ear. s.least g (parent_from_ear edges remaining shared (get_or remaining place 0) g a ear);
   none_before = none;
 }
 
-pub none_more : (edges remaining : List ℕ) (from place shared : ℕ) → AreShared edges remaining shared → ((f : ℕ) → IsServer edges remaining (get_or remaining place 0) (bit_and (slice_index edges (get_or remaining place 0)) shared) f → ⊥) → ((k g : ℕ) → from ≤ k → k < place → IsEar edges remaining (get_or remaining k 0) g → ⊥) → (k g : ℕ) → from ≤ k → k < place + 1 → IsEar edges remaining (get_or remaining k 0) g → ⊥
+pub none_more : (edges remaining : List ℕ) (from place shared : ℕ) → AreShared edges remaining shared → ((f : ℕ) → IsParent edges remaining (get_or remaining place 0) (bit_and (slice_index edges (get_or remaining place 0)) shared) f → ⊥) → ((k g : ℕ) → from ≤ k → k < place → IsEar edges remaining (get_or remaining k 0) g → ⊥) → (k g : ℕ) → from ≤ k → k < place + 1 → IsEar edges remaining (get_or remaining k 0) g → ⊥
 none_more edges remaining from place shared a none before k g low h ear =
     elim (same_or_not k place) [
-      | inl e ↦ none g (server_from_ear edges remaining shared (get_or remaining place 0) g a (subst (λ j. IsEar edges remaining (get_or remaining j 0) g) e ear))
+      | inl e ↦ none g (parent_from_ear edges remaining shared (get_or remaining place 0) g a (subst (λ j. IsEar edges remaining (get_or remaining j 0) g) e ear))
       | inr d ↦ before k g low (omega arith) ear
     ]

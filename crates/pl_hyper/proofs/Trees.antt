@@ -20,7 +20,7 @@ pub record Tree (has : ℕ → ℕ → ℕ) (R : ℕ → Type 0) : Type 0 where
 
 pub record Served (has : ℕ → ℕ → ℕ) (R : ℕ → Type 0) (e f : ℕ) : Type 0 where
   pub ear : R e
-  pub server : R f
+  pub parent_remains : R f
   pub apart : e ≢ f
   pub serves : (c g : ℕ) → R g → g ≢ e → has e c ≡ 1 → has g c ≡ 1 → has f c ≡ 1
 
@@ -64,10 +64,10 @@ carried has R S to from t = record {
   connected = λ c e g h k a b. t.connected c e g (from e h) (from g k) a b;
 }
 
--- ---- an ear is put back below its server
+-- ---- an ear is put back below its parent
 
 put_back_up : (has : ℕ → ℕ → ℕ) (R : ℕ → Type 0) (e f : ℕ) (ear : Served has R e f) (t : Tree has (But R e)) (g : ℕ) → (g ≡ e) ⊎ (g ≢ e) → R g → g ≢ t.root → R (changed e f t.parent g)
-put_back_up has R e f ear t g (inl s) h n = rw (changed_here e f g t.parent s) ear.server
+put_back_up has R e f ear t g (inl s) h n = rw (changed_here e f g t.parent s) ear.parent_remains
 put_back_up has R e f ear t g (inr d) h n = rw (changed_elsewhere e f g t.parent d) ((t.up g (h, d) n).0)
 
 put_back_falls : (has : ℕ → ℕ → ℕ) (R : ℕ → Type 0) (e f : ℕ) (ear : Served has R e f) (t : Tree has (But R e)) (g : ℕ) → (g ≡ e) ⊎ (g ≢ e) → R g → g ≢ t.root → changed e (suc (t.rank f)) t.rank (changed e f t.parent g) < changed e (suc (t.rank f)) t.rank g
@@ -84,7 +84,7 @@ put_back_top has R e f t c g d a = record {
   lacks = λ n q. a.lacks n (rw (changed_elsewhere e f g t.parent d) q);
 }
 
--- no other edge of a class is a top beside the ear, since the server would hold the class
+-- no other edge of a class is a top beside the ear, since the parent would hold the class
 put_back_alone : (has : ℕ → ℕ → ℕ) (R : ℕ → Type 0) (e f : ℕ) (ear : Served has R e f) (t : Tree has (But R e)) (c g h : ℕ) → h ≡ e → g ≢ e → R g → Top has t.root (changed e f t.parent) c h → has g c ≡ 1 → ⊥
 put_back_alone has R e f ear t c g h s d k a held =
     let root_other : h ≢ t.root = λ q. t.at_root.1 (sym q ∙ s) in
@@ -259,7 +259,7 @@ taken_out has R t e ear = record {
 
 pub without_ear : (has : ℕ → ℕ → ℕ) (R : ℕ → Type 0) (e f : ℕ) → Served has R e f → Tree has R → Tree has (But R e)
 without_ear has R e f ear t =
-    let u = rooted has R t (t.rank f) f ear.server (le_refl (t.rank f)) (same_or_not f t.root) in
+    let u = rooted has R t (t.rank f) f ear.parent_remains (le_refl (t.rank f)) (same_or_not f t.root) in
     taken_out has R u.tree e (subst (Served has R e) (sym u.root_is) ear)
 
 -- ---- an edge without children is an ear, and a tree of two edges has one
@@ -291,7 +291,7 @@ leaf_serves has R t e re ne leaf c g rg ng held also (inr k) =
 leaf_is_ear : (has : ℕ → ℕ → ℕ) (R : ℕ → Type 0) (t : Tree has R) (e : ℕ) → R e → e ≢ t.root → ((k : ℕ) → R k → k ≢ t.root → t.parent k ≢ e) → Served has R e (t.parent e)
 leaf_is_ear has R t e re ne leaf = record {
   ear = re;
-  server = t.up e re ne;
+  parent_remains = t.up e re ne;
   apart = λ q. not_below e (t.parent e) t.rank q (t.falls e re ne);
   serves = λ c g rg ng held also. leaf_serves has R t e re ne leaf c g rg ng held also (same_or_not (has (t.parent e) c) 1);
 }

@@ -4,6 +4,7 @@ use Rattle.std.specs.List.{All, AllPairs, remove}
 use Rattle.std.proofs.lemmas.List.{get_or_default}
 use Rattle.std.proofs.lemmas.List.Elements.{Contains-get_or}
 use Rattle.std.proofs.lemmas.List.Edits.{length-remove, get_or-remove_below}
+use Rattle.std.proofs.lemmas.Bool.{cases_lt}
 use Rattle.pl_hyper.specs.declared.ear.Ear.{Ear}
 use Rattle.pl_hyper.specs.Edges.{edge_numbers}
 use Rattle.pl_hyper.specs.Ears.{IsEar, IsFirstEar, Removes, IsRemoval, without}
@@ -24,9 +25,6 @@ core_rises edges core removed shared from u = left_rises edges (edge_numbers edg
 pub core_within : (edges core : List ℕ) (removed : List Ear) (shared from : ℕ) → IsUnderWay edges core removed shared from → All (λ e. e < length edges) core
 core_within edges core removed shared from u = λ k d h. within_range (length edges) (get_or core k d) (still_edges edges (edge_numbers edges) removed core u.removes (get_or core k d) (Contains-get_or core k d h))
 
-below_or_not : (a b : ℕ) → (a < b) ⊎ (b ≤ a)
-below_or_not a b = grind arith
-
 least_place : (edges core : List ℕ) (from place k e f : ℕ) → AllPairs (λ a b. a < b) core → get_or core k 0 ≡ e → k < length core → (k < from → ⊥) → (from ≤ k → k < place → ⊥) → (k < from) ⊎ (from ≤ k) → (k < place) ⊎ (place ≤ k) → get_or core place 0 ≤ e
 least_place edges core from place k e f up at h before between (inl low) m = absurd (before low)
 least_place edges core from place k e f up at h before between (inr high) (inl low) = absurd (between high low)
@@ -42,7 +40,7 @@ least_edge edges core removed shared from place parent u found e f ear =
     let k = ear.edge_remains.0 in
     let at : get_or core k 0 ≡ e = get_or_default core k 0 e ear.edge_remains.1 ∙ ear.edge_remains.2 in
     let there : IsEar edges core (get_or core k 0) f = subst (λ x. IsEar edges core x f) (sym at) ear in
-    least_place edges core from place k e f (core_rises edges core removed shared from u) at ear.edge_remains.1 (λ h. u.none_before k f h there) (λ h l. found.none_before k f h l there) (below_or_not k from) (below_or_not k place)
+    least_place edges core from place k e f (core_rises edges core removed shared from u) at ear.edge_remains.1 (λ h. u.none_before k f h there) (λ h l. found.none_before k f h l there) (cases_lt k from) (cases_lt k place)
 
 pub first_ear_found : (edges core : List ℕ) (removed : List Ear) (shared from place parent : ℕ) → IsUnderWay edges core removed shared from → IsEarAt edges core from place parent → IsFirstEar edges core (get_or core place 0) parent
 first_ear_found edges core removed shared from place parent u found = record {
@@ -58,7 +56,7 @@ none_still edges core removed shared from place parent u found after k f h ear =
     let same = remove_is_without core place 0 (core_rises edges core removed shared from u) found.within in
     let at : get_or (without gone core) k 0 ≡ get_or core k 0 = sym (ap (λ xs. get_or xs k 0) same) ∙ get_or-remove_below core place 0 k h found.within in
     let before = ear_before edges core gone shared (get_or core k 0) f u.shared_are after (subst (λ x. IsEar edges (without gone core) x f) at ear) in
-    elim (below_or_not k from) [
+    elim (cases_lt k from) [
       | inl low ↦ u.none_before k f low before
       | inr high ↦ found.none_before k f high h before
     ]
@@ -69,7 +67,7 @@ none_left edges core removed shared from u none e f ear =
     let k = ear.edge_remains.0 in
     let at : get_or core k 0 ≡ e = get_or_default core k 0 e ear.edge_remains.1 ∙ ear.edge_remains.2 in
     let there : IsEar edges core (get_or core k 0) f = subst (λ x. IsEar edges core x f) (sym at) ear in
-    elim (below_or_not k from) [
+    elim (cases_lt k from) [
       | inl low ↦ u.none_before k f low there
       | inr high ↦ none k f high ear.edge_remains.1 there
     ]

@@ -19,15 +19,15 @@ abbrev pub AreShared : List ℕ → List ℕ → ℕ → Type 0
 AreShared edges remaining shared = (class : ℕ) → (bit_at shared class ≡ 1) ↔ IsShared edges remaining class
 
 -- a remaining edge other than `edge` that holds all of the classes
-pub record IsServer (edges remaining : List ℕ) (edge classes server : ℕ) : Type 0 where
-  pub remains : Contains remaining server
-  pub apart : edge ≢ server
-  pub serves : (class : ℕ) → bit_at classes class ≡ 1 → Holds edges server class
+pub record IsParent (edges remaining : List ℕ) (edge classes parent : ℕ) : Type 0 where
+  pub remains : Contains remaining parent
+  pub apart : edge ≢ parent
+  pub serves : (class : ℕ) → bit_at classes class ≡ 1 → Holds edges parent class
 
 -- the least-numbered of them
-pub record IsFirstServer (edges remaining : List ℕ) (edge classes server : ℕ) : Type 0 where
-  pub is_server : IsServer edges remaining edge classes server
-  pub least : (f : ℕ) → IsServer edges remaining edge classes f → server ≤ f
+pub record IsFirstParent (edges remaining : List ℕ) (edge classes parent : ℕ) : Type 0 where
+  pub is_parent : IsParent edges remaining edge classes parent
+  pub least : (f : ℕ) → IsParent edges remaining edge classes f → parent ≤ f
 
 -- the first ear that stands at `from` or behind it among the remaining edges, and its least-numbered parent
 pub record IsEarAt (edges remaining : List ℕ) (from place parent : ℕ) : Type 0 where

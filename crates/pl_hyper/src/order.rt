@@ -7,8 +7,9 @@ ghost use Rattle.pl_hyper.specs.ClassOrder.{classes_of, class_order, IsClass, Be
 use crate::ear::Ear;
 use std::alloc::{AllocError, Global};
 
-/// The classes in the order in which they are met by a walk over the core and then the removed edges, the last removed first.
-pub fn classes_met(
+/// The classes in the order in which they are met by a walk over the core and then the removed edges, the
+/// last removed first.
+pub fn order_of_classes(
     alloc: Global,
     edges: &[u64],
     removed: &[Ear],

@@ -5,7 +5,7 @@ ghost use Rattle.std.specs.Prelude.{All, AllPairs, Contains, IfOk, IsTrue};
 ghost use Rattle.pl_hyper.specs.JoinTree.{IsAcyclic, IsJoinTree};
 
 use crate::ear::Ear;
-use crate::order::classes_met;
+use crate::order::order_of_classes;
 use std::alloc::{AllocError, Global};
 use std::marker::Model;
 
@@ -78,8 +78,9 @@ impl EarPlan {
         self.core.as_slice()
     }
 
-    /// The classes of the edges, each once, in the order in which they are met by a walk over the core's edges by rising
-    /// number and then over the removed edges, the last removed first. Within an edge they are met by rising number.
+    /// The classes of the edges, each once, in the order in which they are met by a walk over the core's
+    /// edges by rising number and then over the removed edges, the last removed first. Within an edge they
+    /// are met by rising number.
     ///
     /// So the classes of the edges that were walked up to any point are a front of the order.
     pub fn class_order(&self, alloc: Global) -> Result<Vec<u32>, AllocError>
@@ -91,13 +92,13 @@ impl EarPlan {
         ensures walked { IfOk result (λ v. BeginsWithWalked self.now v.items) }
     {
         let edges = self.edges.as_slice();
-        classes_met(alloc, edges, self.removed.as_slice(), self.core.as_slice())
+        order_of_classes(alloc, edges, self.removed.as_slice(), self.core.as_slice())
     }
 
     /// Whether the hypergraph is acyclic: it has no edge, or a join tree over its edges exists.
     ///
-    /// This is the notion of database theory (Beeri, Fagin, Maier and Yannakakis 1983), under which the answers of a join
-    /// are found in time linear in tables and answers (Yannakakis 1981).
+    /// This is the notion of database theory (Beeri, Fagin, Maier and Yannakakis 1983), under which the
+    /// answers of a join are found in time linear in tables and answers (Yannakakis 1981).
     pub fn is_acyclic(&self) -> bool
         ensures acyclic { IsTrue result ↔ IsAcyclic self.now.edges }
         ensures core { IsTrue result ↔ (length self.now.core ≤ 1) }

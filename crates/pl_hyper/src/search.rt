@@ -1,9 +1,10 @@
 //! The search for the next ear among the edges that remain.
 
-ghost use Rattle.std.specs.Prelude.{◌≡◌, ◌≢◌, ◌≤◌, ◌<◌, ℕ, length, All, AllPairs, IfSome, IfNone, slice_index, ◌↔◌, IsTrue};
+ghost use Rattle.std.specs.Prelude.{◌≡◌, ◌≢◌, ◌≤◌, ◌<◌, ℕ, length, All, AllPairs, IfSome, IfNone};
+ghost use Rattle.std.specs.Prelude.{slice_index, ◌↔◌, IsTrue};
 ghost use Rattle.std.specs.Int.{bit_at};
 ghost use Rattle.pl_hyper.specs.Ears.{IsEar};
-ghost use Rattle.pl_hyper.specs.Search.{AreShared, IsServer, IsFirstServer, IsEarAt};
+ghost use Rattle.pl_hyper.specs.Search.{AreShared, IsParent, IsFirstParent, IsEarAt};
 
 /// The classes that at least two of the remaining edges hold.
 pub fn shared_classes(edges: &[u64], remaining: &[u32]) -> u64
@@ -22,11 +23,11 @@ pub fn shared_classes(edges: &[u64], remaining: &[u32]) -> u64
 }
 
 /// The first remaining edge other than `edge` that holds all of the classes.
-fn first_server(edges: &[u64], remaining: &[u32], edge: u32, classes: u64) -> Option<u32>
+fn first_parent(edges: &[u64], remaining: &[u32], edge: u32, classes: u64) -> Option<u32>
     requires within { All (λ e. e < length edges.now) remaining.now }
     requires rising { AllPairs (λ e f. e < f) remaining.now }
-    ensures first { IfSome result (IsFirstServer edges.now remaining.now edge classes) }
-    ensures none { IfNone result ((f : ℕ) → IsServer edges.now remaining.now edge classes f → ⊥) }
+    ensures first { IfSome result (IsFirstParent edges.now remaining.now edge classes) }
+    ensures none { IfNone result ((f : ℕ) → IsParent edges.now remaining.now edge classes f → ⊥) }
 {
     for f in remaining {
         if *f != edge && is_within(classes, edges[*f as usize]) {
@@ -58,7 +59,7 @@ pub fn first_ear(edges: &[u64], remaining: &[u32], from: usize, shared: u64) -> 
 {
     for place in from..remaining.len() {
         let edge = remaining[place];
-        if let Some(parent) = first_server(edges, remaining, edge, edges[edge as usize] & shared) {
+        if let Some(parent) = first_parent(edges, remaining, edge, edges[edge as usize] & shared) {
             return Some((place, parent));
         }
     }

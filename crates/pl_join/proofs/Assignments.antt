@@ -89,3 +89,7 @@ same_relation relation other is are e holds =
     (λ row. (row_shared relation other is e (λ f. (holds f).0) row, row_shared other relation are (sym e) (λ f. (holds f).1) row)) in
     let of : List ℕ → List (List ℕ) → ClassRows = λ cs rs. record { classes = cs; rows = rs } in
     ap (of relation.classes) rows ∙ ap (λ classes. of classes other.rows) e
+
+-- a relation with no row has no assignment
+pub holds_none : (relation : ClassRows) (f : Assignment) → relation.rows ≡ [] → Holds relation f → ⊥
+holds_none relation f e h = Contains-nil (map f relation.classes) (subst (λ rows. Contains rows (map f relation.classes)) e h)

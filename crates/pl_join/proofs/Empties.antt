@@ -6,12 +6,9 @@ use Rattle.std.proofs.lemmas.Bool.Decides.{Decides-eqb}
 use Rattle.pl_rows.specs.Rows.{Rows, IsAscending, row_cmp}
 use Rattle.pl_rows.proofs.Canonical.{Contains-nil, Contains-cons_first}
 use Rattle.pl_join.specs.Relation.{ClassRows, Assignment, IsRelation, Holds, IsSemijoinOf}
-use Rattle.pl_join.specs.Source.{classes_by}
-use Rattle.pl_join.proofs.Assignments.{value_of, row_held}
+use Rattle.pl_join.specs.Source.{shared_with}
+use Rattle.pl_join.proofs.Assignments.{value_of, row_held, holds_none}
 use Rattle.pl_join.proofs.Operations.{Contains-shared}
-
-holds_none : (relation : ClassRows) (f : Assignment) → relation.rows ≡ [] → Holds relation f → ⊥
-holds_none relation f e h = Contains-nil (map f relation.classes) (subst (λ rows. Contains rows (map f relation.classes)) e h)
 
 -- nothing is dropped from a relation that has no row
 pub none_to_drop : (keep by : ClassRows) → keep.rows ≡ [] → IsSemijoinOf keep by keep
@@ -37,15 +34,11 @@ no_row [] e = refl
 no_row (row ∷ rows) e = absurd (omega arith)
 
 -- no class is shared
-pub none_shared : (keep by : ClassRows) → classes_by true by.classes keep.classes ≡ [] → (c : ℕ) → Contains by.classes c → Contains keep.classes c → ⊥
+pub none_shared : (keep by : ClassRows) → shared_with by.classes keep.classes ≡ [] → (c : ℕ) → Contains by.classes c → Contains keep.classes c → ⊥
 none_shared keep by e c b k = Contains-nil c (subst (λ cs. Contains cs c) e ((Contains-shared by.classes keep.classes c).1 (b, k)))
 
-pub ascending-none : IsAscending []
-unfolding IsStrictlySortedBy
-ascending-none = tt
-
 -- the same of what the calls give: no class is chosen, and the other relation has a row
-pub all_kept_by : (keep by : ClassRows) (chosen : List ℕ) (table : Rows) (none some : Bool) → IsRelation by → chosen ≡ classes_by true by.classes keep.classes → none ≡ (length chosen == 0) → none ≡ true
+pub all_kept_by : (keep by : ClassRows) (chosen : List ℕ) (table : Rows) (none some : Bool) → IsRelation by → chosen ≡ shared_with by.classes keep.classes → none ≡ (length chosen == 0) → none ≡ true
     → table ≡ record { arity = length by.classes; rows = by.rows } → IsTrue some ↔ (length table.rows ≡ 0) → some ≡ false → IsSemijoinOf keep by keep
 all_kept_by keep by chosen table none some is ec en chose et es not_empty =
     let (row, held) = some_row by.rows (λ e. false≢true (sym not_empty ∙ es.1 (ap (λ (t : Rows). length t.rows) et ∙ e))) in
@@ -56,10 +49,10 @@ all_kept_by keep by chosen table none some is ec en chose et es not_empty =
     no_class (x ∷ xs) e = absurd (omega arith)
 
 -- some class is chosen, so one is shared
-pub not_apart : (keep by : ClassRows) (chosen : List ℕ) (none : Bool) → chosen ≡ classes_by true by.classes keep.classes → none ≡ (length chosen == 0) → none ≡ false → ((c : ℕ) → Contains by.classes c → Contains keep.classes c → ⊥) → ⊥
+pub not_apart : (keep by : ClassRows) (chosen : List ℕ) (none : Bool) → chosen ≡ shared_with by.classes keep.classes → none ≡ (length chosen == 0) → none ≡ false → ((c : ℕ) → Contains by.classes c → Contains keep.classes c → ⊥) → ⊥
 not_apart keep by chosen none ec en chose apart = first chosen ec en
   where
-    first : (xs : List ℕ) → xs ≡ classes_by true by.classes keep.classes → none ≡ (length xs == 0) → ⊥
+    first : (xs : List ℕ) → xs ≡ shared_with by.classes keep.classes → none ≡ (length xs == 0) → ⊥
     first [] e m = false≢true (sym chose ∙ m)
     first (x ∷ xs) e m =
         let (b, k) = (Contains-shared by.classes keep.classes x).0 (subst (λ cs. Contains cs x) e (Contains-cons_first x xs)) in

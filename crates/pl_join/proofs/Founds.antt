@@ -3,7 +3,7 @@ use Rattle.std.proofs.Common.{◌≡◌, ◌+◌, ◌-◌, ◌<◌, ◌≤◌, �
 use Rattle.std.specs.List.{flat_map}
 use Rattle.std.specs.Str.{bytes_eq}
 use Rattle.std.specs.declared.cmp.Ordering.TheVariants.{Less}
-use Rattle.std.proofs.lemmas.Bool.{cases_Bool, false≢true}
+use Rattle.std.proofs.lemmas.Bool.{cases_Bool, false≢true, false_from_ne_true}
 use Rattle.std.proofs.lemmas.Cmp.{nat_list_cmp_total}
 use Rattle.std.proofs.lemmas.List.{length-append, length-take-le, length-drop, take_more}
 use Rattle.std.proofs.lemmas.List.Concat.{flat_map-append}
@@ -54,10 +54,6 @@ key_apart : (key : List ℕ) (keys : List (List ℕ)) → IsAscending (key ∷ k
 key_apart key keys up h =
     not_below_itself row_cmp nat_list_cmp_total key (All-contains (λ q. row_cmp key q ≡ Less) keys key (All-after_first row_cmp key keys up) h)
 
-false_where : (b : Bool) → (b ≡ true → ⊥) → b ≡ false
-false_where true n = absurd (n refl)
-false_where false n = refl
-
 -- as many rows begin with one of the keys as begin with each of them together
 pub count_found : (width : ℕ) (keys rows : List (List ℕ)) → IsAscending keys → All (λ key. length key ≡ width) keys
     → length (flat_map (λ key. filter (begins_with key) rows) keys) ≡ length (filter (has_key keys width) rows)
@@ -66,7 +62,7 @@ count_found width (key ∷ keys) rows up wide =
     let first : length key ≡ width = All-head (λ k. length k ≡ width) key keys wide in
     let rest = count_found width keys rows (sorted_tail row_cmp key keys up) (All-tail (λ k. length k ≡ width) key keys wide) in
     let apart : (row : List ℕ) → begins_with key row ≡ true → has_key keys width row ≡ false = λ row t.
-    false_where (has_key keys width row) (λ h.
+    false_from_ne_true (has_key keys width row) (λ h.
     let same : take width row ≡ key = ap (λ n. take n row) (sym first) ∙ (bytes_eq-Decides (take (length key) row) key).0 t in
     key_apart key keys up (subst (Contains keys) same ((has_row-Contains keys (take width row)).0 h))) in
     let either : length (filter (λ row. begins_with key row || has_key keys width row) rows) ≡ length (filter (begins_with key) rows) + length (filter (has_key keys width) rows) =

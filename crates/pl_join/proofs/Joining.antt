@@ -13,7 +13,7 @@ use Rattle.std.specs.declared.alloc.AllocError.{AllocError}
 use Rattle.std.proofs.lemmas.Result.{IfOk-weaker}
 use Rattle.pl_rows.specs.Rows.{Rows, IndexedRows, SameRows, rows_of, begins_with}
 use Rattle.pl_join.specs.Relation.{ClassRows, Assignment, AreDistinct, has_class, IsRelation, Holds, IsJoinOf, IsProjectionOf, without}
-use Rattle.pl_join.specs.Source.{picked, glued, joined_with, classes_by}
+use Rattle.pl_join.specs.Source.{picked, glued, joined_with, shared_with}
 use Rattle.std.proofs.lemmas.Bool.{false≢true}
 use Rattle.std.proofs.lemmas.Bool.Decides.{Decides-eqb}
 use Rattle.std.proofs.lemmas.List.Elements.{Contains-append_left, Contains-append_right, Contains-get_or, All-contains_itself}
@@ -93,16 +93,16 @@ pub count_by_length : (arity flat rows : ℕ) → 0 < arity → flat ≡ arity *
 count_by_length arity flat rows some e = rw e (mul-div_cancel_left rows some)
 
 -- each class is shared or not
-class_placed : (classes others : List ℕ) (c : ℕ) → Contains classes c → Contains (classes_by true classes others ++ without classes others) c
+class_placed : (classes others : List ℕ) (c : ℕ) → Contains classes c → Contains (shared_with classes others ++ without classes others) c
 class_placed classes others c h = elim (cases_Bool (has_class others c)) [
-  | inl y ↦ Contains-append_left (classes_by true classes others) (without classes others) c (Contains-filter (λ k. has_class others k) classes c h y)
-  | inr n ↦ Contains-append_right (classes_by true classes others) (without classes others) c (Contains-filter (λ k. not (has_class others k)) classes c h (rw n refl))
+  | inl y ↦ Contains-append_left (shared_with classes others) (without classes others) c (Contains-filter (λ k. has_class others k) classes c h y)
+  | inr n ↦ Contains-append_right (shared_with classes others) (without classes others) c (Contains-filter (λ k. not (has_class others k)) classes c h (rw n refl))
 ]
 
 -- the classes of the arranged rows are those of the relation
-pub arranged_held : (classes others : List ℕ) → All (Contains classes) (classes_by true classes others ++ without classes others)
+pub arranged_held : (classes others : List ℕ) → All (Contains classes) (shared_with classes others ++ without classes others)
 arranged_held classes others =
-    All-append (Contains classes) (classes_by true classes others) (without classes others)
+    All-append (Contains classes) (shared_with classes others) (without classes others)
     (All-filter (λ k. has_class others k) (Contains classes) classes (All-contains_itself classes))
     (All-filter (λ k. not (has_class others k)) (Contains classes) classes (All-contains_itself classes))
 
@@ -123,9 +123,9 @@ shared_or_not classes others c h m =
     let y : has_class others c ≡ true = (has_class-Contains others c).1 h in
     false≢true (rw y at t)
 
-pub arranged_distinct : (classes others : List ℕ) → AreDistinct classes → AreDistinct (classes_by true classes others ++ without classes others)
+pub arranged_distinct : (classes others : List ℕ) → AreDistinct classes → AreDistinct (shared_with classes others ++ without classes others)
 arranged_distinct classes others d =
-    distinct_append (classes_by true classes others) (without classes others)
+    distinct_append (shared_with classes others) (without classes others)
     (AllPairs-filter (λ a b. a ≢ b) (λ k. has_class others k) classes d)
     (AllPairs-filter (λ a b. a ≢ b) (λ k. not (has_class others k)) classes d)
     (λ c h m. shared_or_not classes others c ((has_class-Contains others c).0 (Contains-from_filter (λ k. has_class others k) classes c h).1) m)
@@ -143,7 +143,7 @@ same_parts xs xs' ys ys' l e = (
 )
 
 -- the rows that were put together are the join
-pub joined : (left right : ClassRows) (columns : List ℕ) (others out : List (List ℕ)) → IsRelation left → length columns ≡ length (classes_by true right.classes left.classes) → ((f : Assignment) → picked columns (map f left.classes) ≡ map f (classes_by true right.classes left.classes)) → IsProjectionOf right (record { classes = classes_by true right.classes left.classes ++ without right.classes left.classes; rows = others }) → SameRows out (flat_map (joined_with others columns) left.rows) → IsJoinOf left right (record { classes = left.classes ++ without right.classes left.classes; rows = out })
+pub joined : (left right : ClassRows) (columns : List ℕ) (others out : List (List ℕ)) → IsRelation left → length columns ≡ length (shared_with right.classes left.classes) → ((f : Assignment) → picked columns (map f left.classes) ≡ map f (shared_with right.classes left.classes)) → IsProjectionOf right (record { classes = shared_with right.classes left.classes ++ without right.classes left.classes; rows = others }) → SameRows out (flat_map (joined_with others columns) left.rows) → IsJoinOf left right (record { classes = left.classes ++ without right.classes left.classes; rows = out })
 joined left right columns others out is len picks projects same f = (forth, back)
   where
     forth : Contains out (map f (left.classes ++ without right.classes left.classes)) → Holds left f × Holds right f
@@ -155,12 +155,12 @@ joined left right columns others out is len picks projects same f = (forth, back
         let wide : length l ≡ length left.classes = All-contains (λ row. length row ≡ length left.classes) left.rows l is.rows.width in_left in
         let whole : l ++ drop (length columns) r ≡ map f left.classes ++ map f (without right.classes left.classes) = e ∙ map-append f left.classes (without right.classes left.classes) in
         let (l_is, r_is) = same_parts l (map f left.classes) (drop (length columns) r) (map f (without right.classes left.classes)) (wide ∙ sym (length-map left.classes f)) whole in
-        let key : picked columns l ≡ map f (classes_by true right.classes left.classes) = ap (picked columns) l_is ∙ picks f in
-        let front : take (length columns) r ≡ map f (classes_by true right.classes left.classes) =
+        let key : picked columns l ≡ map f (shared_with right.classes left.classes) = ap (picked columns) l_is ∙ picks f in
+        let front : take (length columns) r ≡ map f (shared_with right.classes left.classes) =
         ap (λ n. take n r) (sym (length-map columns (slice_index l))) ∙ (bytes_eq-Decides (take (length (picked columns l)) r) (picked columns l)).0 begins ∙ key in
-        let row : r ≡ map f (classes_by true right.classes left.classes ++ without right.classes left.classes) =
-        sym (take-append-drop (length columns) r) ∙ ap (λ t. t ++ drop (length columns) r) front ∙ ap (λ t. map f (classes_by true right.classes left.classes) ++ t) r_is
-        ∙ sym (map-append f (classes_by true right.classes left.classes) (without right.classes left.classes)) in
+        let row : r ≡ map f (shared_with right.classes left.classes ++ without right.classes left.classes) =
+        sym (take-append-drop (length columns) r) ∙ ap (λ t. t ++ drop (length columns) r) front ∙ ap (λ t. map f (shared_with right.classes left.classes) ++ t) r_is
+        ∙ sym (map-append f (shared_with right.classes left.classes) (without right.classes left.classes)) in
         let (g, in_right, agree) = (projects f).0 (subst (Contains others) row in_others) in (
           subst (Contains left.rows) l_is in_left,
           subst (Contains right.rows) (sym (map_agree right.classes f g (λ c k. agree c (class_placed right.classes left.classes c k)))) in_right,
@@ -169,17 +169,17 @@ joined left right columns others out is len picks projects same f = (forth, back
     back : Holds left f × Holds right f → Contains out (map f (left.classes ++ without right.classes left.classes))
     back (in_left, in_right) =
         let l : List ℕ = map f left.classes in
-        let r : List ℕ = map f (classes_by true right.classes left.classes ++ without right.classes left.classes) in
+        let r : List ℕ = map f (shared_with right.classes left.classes ++ without right.classes left.classes) in
         let y : List ℕ = map f (left.classes ++ without right.classes left.classes) in
         let in_others : Contains others r = (projects f).1 (f, in_right, λ c m. refl) in
-        let parts : r ≡ map f (classes_by true right.classes left.classes) ++ map f (without right.classes left.classes) =
-        map-append f (classes_by true right.classes left.classes) (without right.classes left.classes) in
-        let wide : length (map f (classes_by true right.classes left.classes)) ≡ length columns = length-map (classes_by true right.classes left.classes) f ∙ sym len in
+        let parts : r ≡ map f (shared_with right.classes left.classes) ++ map f (without right.classes left.classes) =
+        map-append f (shared_with right.classes left.classes) (without right.classes left.classes) in
+        let wide : length (map f (shared_with right.classes left.classes)) ≡ length columns = length-map (shared_with right.classes left.classes) f ∙ sym len in
         let front : take (length (picked columns l)) r ≡ picked columns l =
         ap (λ n. take n r) (length-map columns (slice_index l)) ∙ ap (take (length columns)) parts
-        ∙ take_at (map f (classes_by true right.classes left.classes)) (map f (without right.classes left.classes)) (length columns) wide ∙ sym (picks f) in
+        ∙ take_at (map f (shared_with right.classes left.classes)) (map f (without right.classes left.classes)) (length columns) wide ∙ sym (picks f) in
         let behind : drop (length columns) r ≡ map f (without right.classes left.classes) =
-        ap (drop (length columns)) parts ∙ drop_at (map f (classes_by true right.classes left.classes)) (map f (without right.classes left.classes)) (length columns) wide in
+        ap (drop (length columns)) parts ∙ drop_at (map f (shared_with right.classes left.classes)) (map f (without right.classes left.classes)) (length columns) wide in
         let made : glued (length columns) l r ≡ y = ap (λ t. l ++ t) behind ∙ sym (map-append f left.classes (without right.classes left.classes)) in
         let chosen : Contains (filter (begins_with (picked columns l)) others) r =
         Contains-filter (begins_with (picked columns l)) others r in_others ((bytes_eq-Decides (take (length (picked columns l)) r) (picked columns l)).1 front) in
@@ -188,7 +188,7 @@ joined left right columns others out is len picks projects same f = (forth, back
         (Contains-map (glued (length columns) l) (filter (begins_with (picked columns l)) others) r chosen)))
 
 -- the same of what the calls give, each known by an equation
-pub joined_made : (left right result : ClassRows) (classes others_classes rest shared given_rest given_shared columns given items : List ℕ) (table made : Rows) (others : List (List ℕ)) → IsRelation left → classes ≡ left.classes → others_classes ≡ right.classes → rest ≡ classes_by false others_classes classes → shared ≡ classes_by true others_classes classes → given_rest ≡ rest → given_shared ≡ shared → length columns ≡ length given_shared → ((f : Assignment) → picked columns (map f classes) ≡ map f given_shared) → given ≡ columns → table ≡ record { arity = length left.classes; rows = left.rows } → IsProjectionOf right (record { classes = given_shared ++ given_rest; rows = others }) → SameRows made.rows (flat_map (joined_with others given) table.rows) → items ≡ classes ++ given_rest → result ≡ record { classes = items; rows = made.rows } → IsJoinOf left right result
+pub joined_made : (left right result : ClassRows) (classes others_classes rest shared given_rest given_shared columns given items : List ℕ) (table made : Rows) (others : List (List ℕ)) → IsRelation left → classes ≡ left.classes → others_classes ≡ right.classes → rest ≡ without others_classes classes → shared ≡ shared_with others_classes classes → given_rest ≡ rest → given_shared ≡ shared → length columns ≡ length given_shared → ((f : Assignment) → picked columns (map f classes) ≡ map f given_shared) → given ≡ columns → table ≡ record { arity = length left.classes; rows = left.rows } → IsProjectionOf right (record { classes = given_shared ++ given_rest; rows = others }) → SameRows made.rows (flat_map (joined_with others given) table.rows) → items ≡ classes ++ given_rest → result ≡ record { classes = items; rows = made.rows } → IsJoinOf left right result
 joined_made left right result classes others_classes rest shared given_rest given_shared columns given items table made others is ec eo er es egr egs len picks eg et projects same ei e =
     rw (e, ei, egr, er, ec, eo) (joined left right columns others made.rows is (rw (egs, es, ec, eo) at len) (rw (egs, es, ec, eo) at picks) (rw (egs, egr, es, er, ec, eo) at projects) (rw (eg, et) at same))
 
@@ -226,13 +226,13 @@ all_among classes others none k d l = elim (cases_Bool (has_class others (get_or
 ]
 
 -- the classes of the arranged rows are few
-pub arranged_few : (classes others : List ℕ) → AreDistinct classes → All (λ c. c < 64) classes → length (classes_by true classes others) + length (without classes others) ≤ 64
+pub arranged_few : (classes others : List ℕ) → AreDistinct classes → All (λ c. c < 64) classes → length (shared_with classes others) + length (without classes others) ≤ 64
 arranged_few classes others d below =
     omega (
       arith,
-      length-append (classes_by true classes others) (without classes others),
-      few_classes (classes_by true classes others ++ without classes others) 64 (arranged_distinct classes others d)
-          (held_below classes (classes_by true classes others ++ without classes others) 64 below (arranged_held classes others)),
+      length-append (shared_with classes others) (without classes others),
+      few_classes (shared_with classes others ++ without classes others) 64 (arranged_distinct classes others d)
+          (held_below classes (shared_with classes others ++ without classes others) 64 below (arranged_held classes others)),
     )
 
 pub joined_below : (classes others : List ℕ) → All (λ c. c < 64) classes → All (λ c. c < 64) others → All (λ c. c < 64) (others ++ without classes others)

@@ -10,7 +10,7 @@ use Rattle.pl_rows.specs.Rows.{Rows, IndexedRows, SameRows}
 use Rattle.pl_join.specs.Relation.{ClassRows, Assignment, AreDistinct, IsRelation, Holds, Agree, IsJoinOf, IsProjectionOf, IsSemijoinOf, has_class, without}
 use Rattle.pl_join.specs.Keyed.{KeyedRows, key_of, rest_of, IsSharedKey}
 use Rattle.pl_join.specs.Found.{has_key}
-use Rattle.pl_join.specs.Source.{of_rows, classes_by}
+use Rattle.pl_join.specs.Source.{of_rows}
 use Rattle.pl_join.proofs.Assignments.{value_of, map_agree, agree_map, row_held, first_apart, rest_distinct}
 use Rattle.pl_join.proofs.Loops.{same_rows}
 use Rattle.pl_join.proofs.Members.{Contains-map, Contains-from_map, Contains-filter, has_row-Contains, has_class-Contains}
@@ -110,8 +110,8 @@ front_rows relation arranged key e projects f = (
   λ h. (projects f).1 (f, h, λ c m. refl),
 )
 
-pub front_is : (classes given key rest slice order all : List ℕ) → given ≡ classes → rest ≡ classes_by false given key → slice ≡ rest → order ≡ key ++ slice → all ≡ order → all ≡ key ++ without classes key
-front_is classes given key rest slice order all eg er es eo ea = ea ∙ eo ∙ ap (λ cs. key ++ cs) (es ∙ er ∙ ap (λ cs. classes_by false cs key) eg)
+pub front_is : (classes given key rest slice order all : List ℕ) → given ≡ classes → rest ≡ without given key → slice ≡ rest → order ≡ key ++ slice → all ≡ order → all ≡ key ++ without classes key
+front_is classes given key rest slice order all eg er es eo ea = ea ∙ eo ∙ ap (λ cs. key ++ cs) (es ∙ er ∙ ap (λ cs. without cs key) eg)
 
 pub front_within : (n : ℕ) (xs : List ℕ) → All (Contains xs) (take n xs)
 front_within n xs k d l =

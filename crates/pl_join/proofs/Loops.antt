@@ -10,10 +10,11 @@ use Rattle.std.proofs.lemmas.Option.{slice_get_within, get_or_from_slice_get}
 use Rattle.std.specs.declared.alloc.AllocError.{AllocError}
 use Rattle.pl_rows.specs.Rows.{Rows, AreRows, SameRows, rows_of, row_cmp}
 use Rattle.pl_rows.proofs.Places.{rows_of-push}
+use Rattle.pl_join.specs.declared.filters.Keep.{Keep}
 use Rattle.pl_join.specs.declared.slot.Slot.{Slot}
 use Rattle.pl_join.specs.declared.source.Source.{Source}
 use Rattle.pl_join.specs.Relation.{Assignment, slot_value}
-use Rattle.pl_join.specs.Source.{value_at, looked_at, differ, has_row, is_wanted, is_kept}
+use Rattle.pl_join.specs.Source.{value_at, looked_at, differ, has_row, keeps_where, is_kept}
 use Rattle.pl_join.proofs.Members.{has_row-Contains}
 
 -- a row more in the flat list
@@ -69,11 +70,11 @@ no_difference a b row x y e f s =
     rw same refl
 
 -- what a look-up says of a row
-pub kept_is : (wanted : Bool) (others : List (List ℕ)) (sources : List Source) (row values : List ℕ) (found answer : Bool) → values ≡ looked_at sources row → IsTrue found ↔ Contains others values → answer ≡ is_wanted wanted found → answer ≡ is_kept wanted others sources row
-kept_is wanted others sources row values found answer e h a =
+pub kept_is : (keep : Keep) (others : List (List ℕ)) (sources : List Source) (row values : List ℕ) (found answer : Bool) → values ≡ looked_at sources row → IsTrue found ↔ Contains others values → answer ≡ keeps_where keep found → answer ≡ is_kept keep others sources row
+kept_is keep others sources row values found answer e h a =
     let here : Decides found (Contains others (looked_at sources row)) = subst (λ v. Decides found (Contains others v)) e h in
     let same : has_row others (looked_at sources row) ≡ found = same_from_decides _ _ (has_row-Contains others (looked_at sources row)) here in
-    a ∙ sym (ap (is_wanted wanted) same)
+    a ∙ sym (ap (keeps_where keep) same)
 
 -- behind rows that are all kept, one that is kept too, and one that is not
 pub all_kept_more : (p : List ℕ → Bool) (i : ℕ) (rows : List (List ℕ)) (row : List ℕ) → slice_get rows i ≡ Some row → p row ≡ true → filter p (take i rows) ≡ take i rows → filter p (take (i + 1) rows) ≡ take (i + 1) rows

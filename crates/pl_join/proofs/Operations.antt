@@ -9,7 +9,8 @@ use Rattle.std.proofs.lemmas.List.Elements.{All-map, All-weaker, Contains-get_or
 use Rattle.std.proofs.lemmas.Slice.Eq.{bytes_eq-Decides}
 use Rattle.pl_join.specs.declared.slot.Slot.TheVariants.{Class}
 use Rattle.pl_join.specs.Relation.{IsSelectionOf, IsSlotOver, IsJoinOf, IsSemijoinOf, AgreeOnShared, has_class, ClassRows, Assignment, IsRelation, Holds, Agree, IsProjectionOf, AreUnequalOf, AreAbsentOf, slot_value}
-use Rattle.pl_join.specs.Source.{of_rows, fits_slots, is_wanted, classes_by, value_at, picked, looked_at, differ, is_kept}
+use Rattle.pl_join.specs.declared.filters.Keep.TheVariants.{Found, Missing}
+use Rattle.pl_join.specs.Source.{of_rows, fits_slots, shared_with, value_at, picked, looked_at, differ, is_kept}
 use Rattle.pl_join.proofs.Assignments.{value_of, map_agree, agree_map, row_held}
 use Rattle.pl_join.proofs.Loops.{same_rows}
 use Rattle.pl_join.proofs.Members.{Contains-map, Contains-from_map, Contains-filter, Contains-from_filter, has_row-Contains, has_class-Contains}
@@ -52,9 +53,9 @@ unequal relation rows a b first second at_first at_second same f =
       λ (held, unlike). back (held, differs (λ e. unlike (sym (at_first f) ∙ e ∙ at_second f))),
     )
 
-pub absent : (relation : ClassRows) (rows others : List (List ℕ)) (slots : List Slot) (sources : List Source) → ((f : Assignment) → looked_at sources (map f relation.classes) ≡ map (slot_value f) slots) → SameRows rows (filter (is_kept false others sources) relation.rows) → AreAbsentOf relation others slots (record { classes = relation.classes; rows = rows })
+pub absent : (relation : ClassRows) (rows others : List (List ℕ)) (slots : List Slot) (sources : List Source) → ((f : Assignment) → looked_at sources (map f relation.classes) ≡ map (slot_value f) slots) → SameRows rows (filter (is_kept Missing others sources) relation.rows) → AreAbsentOf relation others slots (record { classes = relation.classes; rows = rows })
 absent relation rows others slots sources values same f =
-    let (forth, back) = kept_by relation rows (is_kept false others sources) same f in
+    let (forth, back) = kept_by relation rows (is_kept Missing others sources) same f in
     let key : looked_at sources (map f relation.classes) ≡ map (slot_value f) slots = values f in
     let (found, has) = has_row-Contains others (looked_at sources (map f relation.classes)) in (
       λ h. (let (held, passes) = forth h in (held, λ m. missing _ passes (has (subst (Contains others) (sym key) m)))),
@@ -79,7 +80,7 @@ pub unequal_made : (relation result : ClassRows) (held items : List ℕ) (table 
 unequal_made relation result held items table made a b first second eh et at_first at_second same ei er =
     rw (er, ei, eh) (unequal relation made.rows a b first second (rw eh at at_first) (rw eh at at_second) (rw et at same))
 
-pub absent_made : (relation result : ClassRows) (held items : List ℕ) (table made : Rows) (others : List (List ℕ)) (slots : List Slot) (sources given : List Source) → held ≡ relation.classes → table ≡ record { arity = length relation.classes; rows = relation.rows } → ((f : Assignment) → looked_at sources (map f held) ≡ map (slot_value f) slots) → given ≡ sources → made.rows ≡ filter (is_kept false others given) table.rows → items ≡ held → result ≡ record { classes = items; rows = made.rows } → AreAbsentOf relation others slots result
+pub absent_made : (relation result : ClassRows) (held items : List ℕ) (table made : Rows) (others : List (List ℕ)) (slots : List Slot) (sources given : List Source) → held ≡ relation.classes → table ≡ record { arity = length relation.classes; rows = relation.rows } → ((f : Assignment) → looked_at sources (map f held) ≡ map (slot_value f) slots) → given ≡ sources → made.rows ≡ filter (is_kept Missing others given) table.rows → items ≡ held → result ≡ record { classes = items; rows = made.rows } → AreAbsentOf relation others slots result
 absent_made relation result held items table made others slots sources given eh et values eg same ei er =
     rw (er, ei, eh) (absent relation made.rows others slots sources (rw eh at values) (same_rows _ _ (rw (eg, et) at same)))
 
@@ -120,9 +121,9 @@ slots_held held classes all = All-map (IsSlotOver held) Class classes
     same_class c k h e = let same : c ≡ k = cc in subst (Contains held) same h
 
 -- the rows whose values are a row of another relation over some of the classes are the join with it
-pub restricted_to : (keep by : ClassRows) (rows : List (List ℕ)) (sources : List Source) → ((f : Assignment) → looked_at sources (map f keep.classes) ≡ map f by.classes) → SameRows rows (filter (is_kept true by.rows sources) keep.rows) → IsJoinOf keep by (record { classes = keep.classes; rows = rows })
+pub restricted_to : (keep by : ClassRows) (rows : List (List ℕ)) (sources : List Source) → ((f : Assignment) → looked_at sources (map f keep.classes) ≡ map f by.classes) → SameRows rows (filter (is_kept Found by.rows sources) keep.rows) → IsJoinOf keep by (record { classes = keep.classes; rows = rows })
 restricted_to keep by rows sources values same f =
-    let (forth, back) = kept_by keep rows (is_kept true by.rows sources) same f in
+    let (forth, back) = kept_by keep rows (is_kept Found by.rows sources) same f in
     let key : looked_at sources (map f keep.classes) ≡ map f by.classes = values f in
     let (found, has) = has_row-Contains by.rows (looked_at sources (map f keep.classes)) in (
       λ h. (let (held, passes) = forth h in (held, subst (Contains by.rows) key (found passes))),
@@ -130,23 +131,23 @@ restricted_to keep by rows sources values same f =
     )
 
 -- the same of what the calls give, where a row is left out and where none is
-pub found_made : (classes wanted items : List ℕ) (rows keys : List (List ℕ)) (result : ClassRows) (made : Rows) (slots given_slots : List Slot) (sources given : List Source) → slots ≡ map Class wanted → given_slots ≡ slots → ((f : Assignment) → looked_at sources (map f classes) ≡ map (slot_value f) given_slots) → given ≡ sources → made.rows ≡ filter (is_kept true keys given) rows → items ≡ classes → result ≡ record { classes = items; rows = made.rows } → IsJoinOf (of_rows classes rows) (of_rows wanted keys) result
+pub found_made : (classes wanted items : List ℕ) (rows keys : List (List ℕ)) (result : ClassRows) (made : Rows) (slots given_slots : List Slot) (sources given : List Source) → slots ≡ map Class wanted → given_slots ≡ slots → ((f : Assignment) → looked_at sources (map f classes) ≡ map (slot_value f) given_slots) → given ≡ sources → made.rows ≡ filter (is_kept Found keys given) rows → items ≡ classes → result ≡ record { classes = items; rows = made.rows } → IsJoinOf (of_rows classes rows) (of_rows wanted keys) result
 found_made classes wanted items rows keys result made slots given_slots sources given es egs values eg same ei er =
     rw (er, ei) (restricted_to (of_rows classes rows) (of_rows wanted keys) made.rows sources
     (λ f. values f ∙ ap (map (slot_value f)) (egs ∙ es) ∙ slots_values wanted f)
     (same_rows _ _ (rw eg at same)))
 
-pub found_whole : (classes wanted : List ℕ) (rows keys : List (List ℕ)) (slots given_slots : List Slot) (sources given : List Source) → slots ≡ map Class wanted → given_slots ≡ slots → ((f : Assignment) → looked_at sources (map f classes) ≡ map (slot_value f) given_slots) → given ≡ sources → filter (is_kept true keys given) rows ≡ rows → IsJoinOf (of_rows classes rows) (of_rows wanted keys) (of_rows classes rows)
+pub found_whole : (classes wanted : List ℕ) (rows keys : List (List ℕ)) (slots given_slots : List Slot) (sources given : List Source) → slots ≡ map Class wanted → given_slots ≡ slots → ((f : Assignment) → looked_at sources (map f classes) ≡ map (slot_value f) given_slots) → given ≡ sources → filter (is_kept Found keys given) rows ≡ rows → IsJoinOf (of_rows classes rows) (of_rows wanted keys) (of_rows classes rows)
 found_whole classes wanted rows keys slots given_slots sources given es egs values eg same =
     restricted_to (of_rows classes rows) (of_rows wanted keys) rows sources
     (λ f. values f ∙ ap (map (slot_value f)) (egs ∙ es) ∙ slots_values wanted f)
-    (same_rows _ _ (sym same ∙ ap (λ s. filter (is_kept true keys s) rows) eg))
+    (same_rows _ _ (sym same ∙ ap (λ s. filter (is_kept Found keys s) rows) eg))
 
 -- what is shared stands in both
-pub Contains-shared : (classes others : List ℕ) (c : ℕ) → Contains (classes_by true classes others) c ↔ (Contains classes c × Contains others c)
+pub Contains-shared : (classes others : List ℕ) (c : ℕ) → Contains (shared_with classes others) c ↔ (Contains classes c × Contains others c)
 Contains-shared classes others c = (
-  λ h. (let (held, t) = Contains-from_filter (λ k. is_wanted true (has_class others k)) classes c h in (held, (has_class-Contains others c).0 t)),
-  λ (held, other). Contains-filter (λ k. is_wanted true (has_class others k)) classes c held ((has_class-Contains others c).1 other),
+  λ h. (let (held, t) = Contains-from_filter (λ k. has_class others k) classes c h in (held, (has_class-Contains others c).0 t)),
+  λ (held, other). Contains-filter (λ k. has_class others k) classes c held ((has_class-Contains others c).1 other),
 )
 
 -- the join with a projection onto the shared classes is the semijoin
@@ -162,7 +163,7 @@ semijoined_on keep by projected kept shared projects joins f = (forth, back)
     back : Holds keep f × ((g : Assignment) × Holds by g × AgreeOnShared keep by f g) → Holds kept f
     back (held, (g, in_by, agree)) = (joins f).1 (held, (projects f).1 (g, in_by, λ c m. (let (b, k) = (shared c).0 m in agree c k b)))
 
-pub semijoined_by : (keep by projected kept : ClassRows) → projected.classes ≡ classes_by true by.classes keep.classes → IsProjectionOf by projected → IsJoinOf keep projected kept → IsSemijoinOf keep by kept
+pub semijoined_by : (keep by projected kept : ClassRows) → projected.classes ≡ shared_with by.classes keep.classes → IsProjectionOf by projected → IsJoinOf keep projected kept → IsSemijoinOf keep by kept
 semijoined_by keep by projected kept e projects joins =
     semijoined_on keep by projected kept (λ c. subst (λ cs. Contains cs c ↔ (Contains by.classes c × Contains keep.classes c)) (sym e) (Contains-shared by.classes keep.classes c)) projects joins
 
@@ -174,17 +175,17 @@ whole_projection by f = (
 )
 
 -- what is shared is among the one and among the others
-pub shared_in : (classes others : List ℕ) → All (Contains classes) (classes_by true classes others)
+pub shared_in : (classes others : List ℕ) → All (Contains classes) (shared_with classes others)
 shared_in classes others k d l =
-    ((Contains-shared classes others _).0 (Contains-get_or (classes_by true classes others) k d l)).0
+    ((Contains-shared classes others _).0 (Contains-get_or (shared_with classes others) k d l)).0
 
-pub shared_held : (classes others : List ℕ) → All (Contains others) (classes_by true classes others)
+pub shared_held : (classes others : List ℕ) → All (Contains others) (shared_with classes others)
 shared_held classes others k d l =
-    ((Contains-shared classes others _).0 (Contains-get_or (classes_by true classes others) k d l)).1
+    ((Contains-shared classes others _).0 (Contains-get_or (shared_with classes others) k d l)).1
 
 -- what was chosen, each known by an equation
-pub chosen_is : (wanted : Bool) (classes others given given_others items slice : List ℕ) → given ≡ classes → given_others ≡ others → items ≡ classes_by wanted given given_others → slice ≡ items → slice ≡ classes_by wanted classes others
-chosen_is wanted classes others given given_others items slice ec eo ei es = es ∙ ei ∙ rw (ec, eo) refl
+pub chosen_is : (choose : List ℕ → List ℕ → List ℕ) (classes others given given_others items slice : List ℕ) → given ≡ classes → given_others ≡ others → items ≡ choose given given_others → slice ≡ items → slice ≡ choose classes others
+chosen_is choose classes others given given_others items slice ec eo ei es = es ∙ ei ∙ rw (ec, eo) refl
 
 -- a slot that is a class among these is over them
 pub slot_over : (classes : List ℕ) (slot : Slot) (c : ℕ) → slot ≡ Class c → Contains classes c → IsSlotOver classes slot

@@ -1,8 +1,10 @@
 -- Where the values of slots and classes stand in a row, and which rows are picked and kept by them.
-use Rattle.std.specs.Prelude.{◌≡◌, ◌↔◌, ◌<◌, ◌==◌, ◌++◌, ℕ, Bool, cond, not, List, length, drop, map, filter, All, Contains, slice_index}
+use Rattle.std.specs.Prelude.{◌≡◌, ◌↔◌, ◌<◌, ◌==◌, ◌++◌, ℕ, Bool, not, List, length, drop, map, filter, All, Contains, slice_index}
 use Rattle.std.specs.List.{AllPairs, list_any, list_all}
 use Rattle.std.specs.Str.{bytes_eq}
 use Rattle.pl_rows.specs.Rows.{Rows, AreRows, begins_with}
+use Rattle.pl_join.specs.declared.filters.Keep.{Keep}
+use Rattle.pl_join.specs.declared.filters.Keep.TheVariants.{Found, Missing}
 use Rattle.pl_join.specs.declared.slot.Slot.{Slot}
 use Rattle.pl_join.specs.declared.slot.Slot.TheVariants.{Class}
 use Rattle.pl_join.specs.Relation.{ClassRows, Assignment, AreDistinct, slot_value, has_class}
@@ -35,13 +37,14 @@ has_row rows row = list_any (bytes_eq row) rows
 abbrev pub differ : Source → Source → List ℕ → Bool
 differ a b row = not (value_at row a == value_at row b)
 
--- what was found, or with `wanted` false what was not
-abbrev pub is_wanted : Bool → Bool → Bool
-is_wanted wanted found = cond wanted found (not found)
+-- whether a row is kept whose values were found, or weren't
+abbrev pub keeps_where : Keep → Bool → Bool
+keeps_where Found found = found
+keeps_where Missing found = not found
 
--- whether the values of the sources are a row of the others, or with `wanted` false whether they are none
-abbrev pub is_kept : Bool → List (List ℕ) → List Source → List ℕ → Bool
-is_kept wanted rows sources row = is_wanted wanted (has_row rows (looked_at sources row))
+-- whether a row is kept, by whether the values of the sources are a row of the others
+abbrev pub is_kept : Keep → List (List ℕ) → List Source → List ℕ → Bool
+is_kept keep rows sources row = keeps_where keep (has_row rows (looked_at sources row))
 
 -- whether the values of the columns, put where the sources say, are the row itself
 abbrev pub fits_slots : List Source → List ℕ → List ℕ → Bool
@@ -88,9 +91,9 @@ pub record IsGathered (slots : List Slot) (classes columns : List ℕ) (limit : 
   pub members : (c : ℕ) → Contains classes c ↔ (Contains slots (Class c) × (c < limit))
   pub places : ArePlacesOf slots classes columns
 
--- the classes that are among the others, or with `wanted` false those that are not, in their order
-abbrev pub classes_by : Bool → List ℕ → List ℕ → List ℕ
-classes_by wanted classes others = filter (λ c. is_wanted wanted (has_class others c)) classes
+-- the classes that are among the others, in their order; `without` has those that aren't
+abbrev pub shared_with : List ℕ → List ℕ → List ℕ
+shared_with classes others = filter (λ c. has_class others c) classes
 
 -- a row, and behind it another without its first `width` values
 abbrev pub glued : ℕ → List ℕ → List ℕ → List ℕ

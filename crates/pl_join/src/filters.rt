@@ -1,10 +1,11 @@
 //! The filters of a relation: by two slots with different values, and by slots whose row a table doesn't have.
 
-ghost use Rattle.std.specs.Prelude.{◌≡◌, ◌+◌, ◌*◌, ◌<◌, ◌≤◌, ◌^◌, ℕ, Bool, length, take, min, map, filter, All, Contains, IfOk, IfSome, IfNone, OnOk};
+ghost use Rattle.std.specs.Prelude.{◌≡◌, ◌+◌, ◌*◌, ◌<◌, ◌≤◌, ◌^◌, ℕ, Bool, length, take, min, map};
+ghost use Rattle.std.specs.Prelude.{filter, All, Contains, IfOk, IfSome, IfNone, OnOk};
 ghost use Rattle.pl_rows.specs.Rows.{AreRows, SameRows, rows_of};
 ghost use Rattle.pl_join.specs.Relation.{IsSlotOver, AreUnequalOf, AreAbsentOf};
 ghost use Rattle.pl_join.specs.Lookup.{keys_of, key_width};
-ghost use Rattle.pl_join.specs.Source.{IsWithin, differ, is_wanted, is_kept};
+ghost use Rattle.pl_join.specs.Source.{IsWithin, differ, keeps_where, is_kept};
 
 use crate::lookup::{Lookup, is_there};
 use crate::relation::Relation;
@@ -14,6 +15,15 @@ use pl_rows::{Table, TableBuilder};
 use pl_steps::Steps;
 use std::alloc::{AllocError, Global};
 use std::sync::ledger::Ledger;
+
+/// Which rows a filter keeps.
+#[derive(Clone, Copy)]
+pub enum Keep {
+    /// Those whose values are found.
+    Found,
+    /// Those whose values are not there.
+    Missing,
+}
 
 /// The rows in which the two slots have different values, over the relation's classes in their order.
 ///
@@ -63,7 +73,7 @@ pub fn filter_absent<L: Ledger>(
         relation.table(),
         Lookup::Rows(table),
         &sources,
-        false,
+        Keep::Missing,
         steps,
     )?;
     Ok(Relation::new(Vec::from_slice(alloc, classes)?, kept))
@@ -97,24 +107,25 @@ fn unequal_rows<L: Ledger>(
     Table::from_rows(alloc, table.arity(), count, flat)
 }
 
-/// The rows in which the values of the sources are a row of the lookup, or with `wanted` false are none.
+/// The rows to keep, by whether the values of the sources are a row of the lookup.
 fn kept_rows<L: Ledger>(
     alloc: Global,
     table: &Table,
     other: Lookup<'_>,
     sources: &[Source],
-    wanted: bool,
+    keep: Keep,
     steps: &mut Steps<L>,
 ) -> Result<Table, AllocError>
     requires within { All (IsWithin table.now.arity) sources.now }
     requires arity { length sources.now ≡ key_width other }
     ensures arity { IfOk result (λ t. t.arity ≡ table.now.arity) }
     ensures rows { IfOk result (λ t. AreRows table.now.arity t.rows) }
-    ensures kept { IfOk result (λ t. t.rows ≡ filter (is_kept wanted (keys_of other.entry) sources.now) table.now.rows) }
+    ensures kept { IfOk result (λ t. t.rows
+        ≡ filter (is_kept keep (keys_of other.entry) sources.now) table.now.rows) }
     ensures cost { steps.new ≤ steps.old + 2 * length table.now.rows }
     ensures rise { steps.old ≤ steps.new }
 {
-    match fewer_rows(alloc, table, other, sources, wanted, steps)? {
+    match fewer_rows(alloc, table, other, sources, keep, steps)? {
         Some(kept) => Ok(kept),
         None => table.copied(alloc),
     }
@@ -128,29 +139,32 @@ pub fn fewer_rows<L: Ledger>(
     table: &Table,
     other: Lookup<'_>,
     sources: &[Source],
-    wanted: bool,
+    keep: Keep,
     steps: &mut Steps<L>,
 ) -> Result<Option<Table>, AllocError>
     requires within { All (IsWithin table.now.arity) sources.now }
     requires arity { length sources.now ≡ key_width other }
-    ensures all { IfOk result (λ r. IfNone r (filter (is_kept wanted (keys_of other.entry) sources.now) table.now.rows ≡ table.now.rows)) }
+    ensures all { IfOk result (λ r. IfNone r
+        (filter (is_kept keep (keys_of other.entry) sources.now) table.now.rows ≡ table.now.rows)) }
     ensures arity { IfOk result (λ r. IfSome r (λ t. t.arity ≡ table.now.arity)) }
     ensures rows { IfOk result (λ r. IfSome r (λ t. AreRows table.now.arity t.rows)) }
-    ensures kept { IfOk result (λ r. IfSome r (λ t. t.rows ≡ filter (is_kept wanted (keys_of other.entry) sources.now) table.now.rows)) }
+    ensures kept { IfOk result (λ r. IfSome r (λ t. t.rows
+        ≡ filter (is_kept keep (keys_of other.entry) sources.now) table.now.rows)) }
     ensures fewer { IfOk result (λ r. IfSome r (λ t. length t.rows < length table.now.rows)) }
     ensures cost { steps.new ≤ steps.old + 2 * length table.now.rows }
     ensures rise { steps.old ≤ steps.new }
 {
     let mut values = vec![in alloc; 0; sources.len()]?;
     let values = values.as_mut_slice();
-    let first = first_left_out(table, other, sources, wanted, values, steps);
+    let mut near = 0;
+    let first = first_left_out(table, other, sources, keep, values, &mut near, steps);
     if first == table.len() {
         return Ok(None);
     }
     let mut kept = TableBuilder::front_of(alloc, table, first)?;
     for i in first + 1..table.len() {
         let row = table.row(i, steps);
-        if keeps(row, other, sources, wanted, values, steps) {
+        if keeps(row, other, sources, keep, values, &mut near, steps) {
             kept.push(row)?;
         }
     }
@@ -162,50 +176,56 @@ fn first_left_out<L: Ledger>(
     table: &Table,
     other: Lookup<'_>,
     sources: &[Source],
-    wanted: bool,
+    keep: Keep,
     values: &mut [u32],
+    near: &mut usize,
     steps: &mut Steps<L>,
 ) -> usize
     requires within { All (IsWithin table.now.arity) sources.now }
     requires arity { length sources.now ≡ key_width other }
     requires values { length values.old ≡ length sources.now }
     ensures within { result ≤ length table.now.rows }
-    ensures kept { filter (is_kept wanted (keys_of other.entry) sources.now) (take (result + 1) table.now.rows) ≡ take result table.now.rows }
+    ensures kept { filter (is_kept keep (keys_of other.entry) sources.now) (take (result + 1) table.now.rows)
+        ≡ take result table.now.rows }
     ensures cost { steps.new ≡ steps.old + 2 * min (result + 1) (length table.now.rows) }
 {
     for i in 0..table.len() {
         let row = table.row(i, steps);
-        if !keeps(row, other, sources, wanted, values, steps) {
+        if !keeps(row, other, sources, keep, values, near, steps) {
             return i;
         }
     }
     table.len()
 }
 
-/// Whether the row is kept, by one probe. `values` is room for the values of the sources.
-#[inline]
+/// Whether the row is kept, by one probe. `values` is room for the values of the sources, and `near` is for `is_there`.
+#[inline(always)]
 fn keeps<L: Ledger>(
     row: &[u32],
     other: Lookup<'_>,
     sources: &[Source],
-    wanted: bool,
+    keep: Keep,
     values: &mut [u32],
+    near: &mut usize,
     steps: &mut Steps<L>,
 ) -> bool
     requires within { All (IsWithin (length row.now)) sources.now }
     requires arity { length sources.now ≡ key_width other }
     requires values { length values.old ≡ length sources.now }
-    ensures kept { result ≡ is_kept wanted (keys_of other.entry) sources.now row.now }
+    ensures kept { result ≡ is_kept keep (keys_of other.entry) sources.now row.now }
     ensures cost { steps.new ≡ steps.old + 1 }
 {
     look_at(values, row, sources);
-    is_as_wanted(wanted, is_there(other, values, steps))
+    takes(keep, is_there(other, values, near, steps))
 }
 
-/// Whether what was found is what was wanted.
+/// Whether a row is kept whose values were found, or weren't.
 #[inline]
-pub fn is_as_wanted(wanted: bool, found: bool) -> bool
-    ensures { result ≡ is_wanted wanted found }
+fn takes(keep: Keep, found: bool) -> bool
+    ensures { result ≡ keeps_where keep found }
 {
-    if wanted { found } else { !found }
+    match keep {
+        Keep::Found => found,
+        Keep::Missing => !found,
+    }
 }

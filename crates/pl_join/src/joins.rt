@@ -1,6 +1,7 @@
 //! The join of two relations.
 
-ghost use Rattle.std.specs.Prelude.{◌≡◌, ◌+◌, ◌-◌, ◌*◌, ◌<◌, ◌≤◌, ◌++◌, ◌^◌, ℕ, length, map, All, Contains, IfOk, OnOk, slice_range};
+ghost use Rattle.std.specs.Prelude.{◌≡◌, ◌+◌, ◌-◌, ◌*◌, ◌<◌, ◌≤◌, ◌++◌, ◌^◌, ℕ, length, map, All};
+ghost use Rattle.std.specs.Prelude.{Contains, IfOk, OnOk, slice_range};
 ghost use Rattle.std.specs.List.{flat_map, concat};
 ghost use Rattle.pl_rows.specs.Rows.{AreRows, SameRows};
 ghost use Rattle.pl_join.specs.Relation.{AreDistinct, IsJoinOf, IsProjectionOf, without};
@@ -8,7 +9,7 @@ ghost use Rattle.pl_join.specs.Source.{glued, joined_with};
 
 use crate::projection::project;
 use crate::relation::Relation;
-use crate::semijoins::{chosen_classes, restricted};
+use crate::semijoins::{other_classes, restricted, shared_classes};
 use crate::source::{append, columns_of, pick};
 use pl_rows::{Indexed, Range, Table};
 use pl_steps::Steps;
@@ -32,12 +33,12 @@ pub fn hash_join<L: Ledger>(
 {
     let classes = left.classes();
     let others = right.classes();
-    let rest = chosen_classes(alloc, others, classes, false)?;
+    let rest = other_classes(alloc, others, classes)?;
     let rest = rest.as_slice();
     if rest.is_empty() {
         return restricted(alloc, left, right, steps);
     }
-    let shared = chosen_classes(alloc, others, classes, true)?;
+    let shared = shared_classes(alloc, others, classes)?;
     let shared = shared.as_slice();
     let columns = columns_of(alloc, classes, shared)?;
     let index = indexed(alloc, right, shared, rest, steps)?;

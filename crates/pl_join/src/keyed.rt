@@ -1,8 +1,10 @@
 //! A relation that is looked up by its first classes, and the semijoins with it.
 
-ghost use Rattle.std.specs.Prelude.{◌≡◌, ◌↔◌, ◌+◌, ◌*◌, ◌<◌, ◌≤◌, ◌++◌, ℕ, length, All, Contains, IsTrue, IfOk, IfSome, IfNone};
+ghost use Rattle.std.specs.Prelude.{◌≡◌, ◌↔◌, ◌+◌, ◌*◌, ◌<◌, ◌≤◌, ◌++◌, ℕ, length, All, Contains};
+ghost use Rattle.std.specs.Prelude.{IsTrue, IfOk, IfSome, IfNone};
 ghost use Rattle.std.specs.List.{list_all, list_any};
-ghost use Rattle.pl_join.specs.Relation.{Assignment, AreDistinct, Holds, IsRelation, IsJoinOf, IsSemijoinOf, has_class, without};
+ghost use Rattle.pl_join.specs.Relation.{Assignment, AreDistinct, Holds, IsRelation, IsJoinOf};
+ghost use Rattle.pl_join.specs.Relation.{IsSemijoinOf, has_class, without};
 ghost use Rattle.pl_join.specs.Keyed.{IsSharedKey, key_of};
 
 use crate::found::rows_found;
@@ -10,7 +12,7 @@ use crate::joins::appended;
 use crate::lookup::Lookup;
 use crate::projection::project;
 use crate::relation::Relation;
-use crate::semijoins::{chosen_classes, has, looked_up};
+use crate::semijoins::{has, looked_up, other_classes};
 use pl_rows::{Indexed, Table};
 use pl_steps::Steps;
 use std::alloc::{AllocError, Global};
@@ -39,7 +41,8 @@ impl Model for Keyed {
 impl Keyed {
     ghost use Rattle.pl_join.specs.Keyed.{key_of, rest_of};
 
-    /// The relation, looked up by its first `width` classes. It takes one probe per row. The only error is want of memory.
+    /// The relation, looked up by its first `width` classes. It takes one probe per row. The only error is
+    /// want of memory.
     pub fn of<L: Ledger>(
         alloc: Global,
         relation: Relation,
@@ -56,7 +59,8 @@ impl Keyed {
         Ok(Keyed { classes, indexed })
     }
 
-    /// The relation with the classes of the key in front and the others behind them in their order, looked up by the key.
+    /// The relation with the classes of the key in front and the others behind them in their order, looked up
+    /// by the key.
     ///
     /// It takes at most two probes per row. The only error is want of memory.
     pub fn by<L: Ledger>(
@@ -75,7 +79,7 @@ impl Keyed {
         ensures cost { steps.new ≤ steps.old + 2 * length relation.now.rows }
         ensures rise { steps.old ≤ steps.new }
     {
-        let rest = chosen_classes(alloc, relation.classes(), key, false)?;
+        let rest = other_classes(alloc, relation.classes(), key)?;
         let order = appended(alloc, key, &rest)?;
         let arranged = project(alloc, relation, &order, steps)?;
         Keyed::of(alloc, arranged, key.len() as u32, steps)
@@ -99,8 +103,8 @@ impl Keyed {
         &self.classes[..self.indexed.width() as usize]
     }
 
-    /// Whether the key has just those of the classes that are among the others, as the semijoins with a relation over the others
-    /// want it.
+    /// Whether the key has just those of the classes that are among the others, as the semijoins with a
+    /// relation over the others want it.
     pub fn shares_key(&self, others: &[u32]) -> bool
         ensures { IsTrue result ↔ IsSharedKey self.now others.now }
     {
@@ -149,8 +153,8 @@ fn are_met(classes: &[u32], others: &[u32]) -> bool
     classes.iter().any(|class| has(others, *class))
 }
 
-/// The semijoin of `keep` by a keyed relation, where it has fewer rows than `keep`; None where it has every row of `keep`,
-/// which is then not copied. The key has just the classes that the two share.
+/// The semijoin of `keep` by a keyed relation, where it has fewer rows than `keep`; None where it has every
+/// row of `keep`, which is then not copied. The key has just the classes that the two share.
 ///
 /// It takes at most two probes per row of `keep`, one of them a look-up. The rows of `by` are not gone through.
 pub fn reduction_by_keyed<L: Ledger>(
@@ -171,11 +175,11 @@ pub fn reduction_by_keyed<L: Ledger>(
     looked_up(alloc, keep.classes(), keep.table(), by.key(), other, steps)
 }
 
-/// The semijoin of a keyed relation by `by`, where it has fewer rows than `keep`; None where it has every row of `keep`, which
-/// is then not copied. The key has just the classes that the two share.
+/// The semijoin of a keyed relation by `by`, where it has fewer rows than `keep`; None where it has every row
+/// of `keep`, which is then not copied. The key has just the classes that the two share.
 ///
-/// It takes at most as many probes as `reduction`, and at most three per row of `by`: the keys that `by` has are looked up,
-/// unless `keep` is so small that going through its rows is less.
+/// It takes at most as many probes as `reduction`, and at most three per row of `by`: the keys that `by` has
+/// are looked up, unless `keep` is so small that going through its rows is less.
 pub fn reduction_of_keyed<L: Ledger>(
     alloc: Global,
     keep: &Keyed,

@@ -1,6 +1,7 @@
 //! The projection of a relation onto some of its classes.
 
-ghost use Rattle.std.specs.Prelude.{◌≡◌, ◌↔◌, ◌+◌, ◌-◌, ◌*◌, ◌<◌, ◌≤◌, ◌^◌, ◌++◌, ◌∷◌, [], ℕ, length, drop, map, All, Contains, IsTrue, IfOk, OnOk};
+ghost use Rattle.std.specs.Prelude.{◌≡◌, ◌↔◌, ◌+◌, ◌-◌, ◌*◌, ◌<◌, ◌≤◌, ◌^◌, ◌++◌, ◌∷◌, [], ℕ};
+ghost use Rattle.std.specs.Prelude.{length, drop, map, All, Contains, IsTrue, IfOk, OnOk};
 ghost use Rattle.pl_rows.specs.Rows.{AreRows, SameRows, rows_of};
 ghost use Rattle.pl_join.specs.Relation.{AreDistinct, IsProjectionOf};
 ghost use Rattle.pl_join.specs.Source.{picked};
@@ -14,8 +15,9 @@ use std::sync::ledger::Ledger;
 
 /// The projection onto distinct classes of the relation, over these classes in the given order.
 ///
-/// It takes at most one probe per row. A row that repeats the one before is left out at once, so that the rows of the first
-/// classes come out in order; other rows are sorted unless they do so too. Onto all classes in their order it is a copy.
+/// It takes at most one probe per row. A row that repeats the one before is left out at once, so that the
+/// rows of the first classes come out in order; other rows are sorted unless they do so too. Onto all classes
+/// in their order it is a copy.
 pub fn project<L: Ledger>(
     alloc: Global,
     relation: &Relation,

@@ -1,9 +1,12 @@
 //! The selection of a table's rows by slots.
 
-ghost use Rattle.std.specs.Prelude.{◌≡◌, ◌↔◌, ◌+◌, ◌<◌, ◌≤◌, ◌^◌, ℕ, List, length, map, filter, slice_get, All, Some, IsTrue, Contains, IfOk, OnOk, IfSome, IfNone};
+ghost use Rattle.std.specs.Prelude.{◌≡◌, ◌↔◌, ◌+◌, ◌<◌, ◌≤◌, ◌^◌, ℕ, List, length, map, filter};
+ghost use Rattle.std.specs.Prelude.{slice_get, All, Some, IsTrue, Contains, IfOk, OnOk, IfSome};
+ghost use Rattle.std.specs.Prelude.{IfNone};
 ghost use Rattle.pl_rows.specs.Rows.{AreRows, SameRows};
 ghost use Rattle.pl_join.specs.Relation.{AreClassesOf, IsSelectionOf, IsSlotBelow};
-ghost use Rattle.pl_join.specs.Source.{AreAll, ArePlacesOf, IsGathered, IsTestOf, IsWithin, value_at, picked, fits_slots, passes_all};
+ghost use Rattle.pl_join.specs.Source.{AreAll, ArePlacesOf, IsGathered, IsTestOf, IsWithin};
+ghost use Rattle.pl_join.specs.Source.{value_at, picked, fits_slots, passes_all};
 
 use crate::relation::Relation;
 use crate::slot::Slot;
@@ -16,8 +19,8 @@ use std::sync::ledger::Ledger;
 /// The number of classes: they are the numbers below it.
 const CLASSES: u32 = 64;
 
-/// The relation over the classes of the slots, by rising number, whose rows are the values for which the row of the slots
-/// is in the table. There is one slot for each column.
+/// The relation over the classes of the slots, by rising number, whose rows are the values for which the row
+/// of the slots is in the table. There is one slot for each column.
 ///
 /// It takes at most one probe per row. A row is compared only at fixed slots and where a class stands again. Where the
 /// slots are rising classes, the table is copied; other rows are sorted unless they come out in order.

@@ -1,11 +1,12 @@
 //! The semijoin of two relations.
 
-ghost use Rattle.std.specs.Prelude.{◌≡◌, ◌⊎◌, [], ◌+◌, ◌*◌, ◌<◌, ◌≤◌, ◌^◌, ℕ, length, map, filter, All, Contains, IfOk, IfSome, IfNone};
-ghost use Rattle.pl_join.specs.Relation.{IsRelation, IsJoinOf, IsSemijoinOf, has_class};
+ghost use Rattle.std.specs.Prelude.{◌≡◌, ◌⊎◌, [], ◌+◌, ◌*◌, ◌<◌, ◌≤◌, ◌^◌, ℕ, length, map, filter};
+ghost use Rattle.std.specs.Prelude.{All, Contains, IfOk, IfSome, IfNone};
+ghost use Rattle.pl_join.specs.Relation.{IsRelation, IsJoinOf, IsSemijoinOf, has_class, without};
 ghost use Rattle.pl_join.specs.Lookup.{keys_of, key_width};
-ghost use Rattle.pl_join.specs.Source.{classes_by, of_rows};
+ghost use Rattle.pl_join.specs.Source.{shared_with, of_rows};
 
-use crate::filters::{fewer_rows, is_as_wanted};
+use crate::filters::{Keep, fewer_rows};
 use crate::lookup::Lookup;
 use crate::projection::project;
 use crate::relation::Relation;
@@ -16,8 +17,8 @@ use pl_steps::Steps;
 use std::alloc::{AllocError, Global};
 use std::sync::ledger::Ledger;
 
-/// The rows of `keep` that agree with at least one row of `by` on all shared classes, over the classes of `keep` in their
-/// order.
+/// The rows of `keep` that agree with at least one row of `by` on all shared classes, over the classes of
+/// `keep` in their order.
 ///
 /// It is `reduction`, with a copy of `keep` where every row is kept, and costs the same probes.
 pub fn semijoin<L: Ledger>(
@@ -40,9 +41,9 @@ pub fn semijoin<L: Ledger>(
 /// The semijoin of `keep` by `by`, where it has fewer rows than `keep`; None where it has every row of `keep`, which is
 /// then not copied.
 ///
-/// It takes at most two probes per row of `keep` and one per row of `by`, and none where one of the two has no row, or where
-/// they share no class. The rows that are kept are not sorted. Those of `by` are projected onto the shared classes first,
-/// unless these are all that it has.
+/// It takes at most two probes per row of `keep` and one per row of `by`, and none where one of the two has
+/// no row, or where they share no class. The rows that are kept are not sorted. Those of `by` are projected
+/// onto the shared classes first, unless these are all that it has.
 pub fn reduction<L: Ledger>(
     alloc: Global,
     keep: &Relation,
@@ -65,7 +66,7 @@ pub fn reduction<L: Ledger>(
         return Ok(Some(keep.emptied(alloc)?));
     }
     let classes = by.classes();
-    let shared = chosen_classes(alloc, classes, keep.classes(), true)?;
+    let shared = shared_classes(alloc, classes, keep.classes())?;
     let shared = shared.as_slice();
     if shared.is_empty() {
         return Ok(None);
@@ -118,8 +119,8 @@ fn reduced<L: Ledger>(
     looked_up(alloc, keep.classes(), keep.table(), wanted, other, steps)
 }
 
-/// The rows of a table over some classes whose values of the wanted classes are found, where some are not; None where all
-/// are.
+/// The rows of a table over some classes whose values of the wanted classes are found, where some are not;
+/// None where all are.
 ///
 /// It takes at most two probes per row.
 pub fn looked_up<L: Ledger>(
@@ -145,7 +146,7 @@ pub fn looked_up<L: Ledger>(
 {
     let slots = slots_of(alloc, wanted)?;
     let sources = sources_of(alloc, classes, &slots)?;
-    match fewer_rows(alloc, table, other, &sources, true, steps)? {
+    match fewer_rows(alloc, table, other, &sources, Keep::Found, steps)? {
         Some(kept) => Ok(Some(Relation::new(Vec::from_slice(alloc, classes)?, kept))),
         None => Ok(None),
     }
@@ -162,22 +163,34 @@ fn slots_of(alloc: Global, classes: &[u32]) -> Result<Vec<Slot>, AllocError>
     Ok(slots)
 }
 
-/// The classes that are among the others, or with `wanted` false those that are not, in their order.
-pub fn chosen_classes(
+/// The classes that are among the others, in their order.
+pub fn shared_classes(
     alloc: Global,
     classes: &[u32],
     others: &[u32],
-    wanted: bool,
 ) -> Result<Vec<u32>, AllocError>
-    ensures { IfOk result (λ chosen. chosen.items ≡ classes_by wanted classes.now others.now) }
+    ensures { IfOk result (λ shared. shared.items ≡ shared_with classes.now others.now) }
 {
-    let mut chosen = Vec::new(alloc);
+    let mut shared = Vec::new(alloc);
     for class in classes {
-        if is_as_wanted(wanted, has(others, *class)) {
-            chosen.push(*class)?;
+        if has(others, *class) {
+            shared.push(*class)?;
         }
     }
-    Ok(chosen)
+    Ok(shared)
+}
+
+/// The classes that are not among the others, in their order.
+pub fn other_classes(alloc: Global, classes: &[u32], others: &[u32]) -> Result<Vec<u32>, AllocError>
+    ensures { IfOk result (λ rest. rest.items ≡ without classes.now others.now) }
+{
+    let mut rest = Vec::new(alloc);
+    for class in classes {
+        if !has(others, *class) {
+            rest.push(*class)?;
+        }
+    }
+    Ok(rest)
 }
 
 /// Whether the class is among these.

@@ -1,6 +1,7 @@
 //! Where the values of slots and classes stand in the rows of a relation.
 
-ghost use Rattle.std.specs.Prelude.{◌≡◌, ◌<◌, ◌^◌, ◌++◌, ℕ, length, map, slice_index, All, Contains, IfOk, IfSome, IfNone, OnOk};
+ghost use Rattle.std.specs.Prelude.{◌≡◌, ◌<◌, ◌^◌, ◌++◌, ℕ, length, map, slice_index, All};
+ghost use Rattle.std.specs.Prelude.{Contains, IfOk, IfSome, IfNone, OnOk};
 ghost use Rattle.pl_join.specs.Relation.{slot_value, IsSlotOver};
 ghost use Rattle.pl_join.specs.Source.{value_at, IsWithin, picked, looked_at};
 
@@ -71,7 +72,8 @@ pub fn sources_of(alloc: Global, classes: &[u32], slots: &[Slot]) -> Result<Vec<
     requires { All (IsSlotOver classes.now) slots.now }
     ensures len { IfOk result (λ s. length s.items ≡ length slots.now) }
     ensures within { IfOk result (λ s. All (IsWithin (length classes.now)) s.items) }
-    ensures values { IfOk result (λ s. (f : ℕ → ℕ) → looked_at s.items (map f classes.now) ≡ map (slot_value f) slots.now) }
+    ensures values { IfOk result (λ s. (f : ℕ → ℕ) →
+        looked_at s.items (map f classes.now) ≡ map (slot_value f) slots.now) }
 {
     let mut sources = Vec::new(alloc);
     for slot in slots {
@@ -85,7 +87,8 @@ pub fn columns_of(alloc: Global, classes: &[u32], wanted: &[u32]) -> Result<Vec<
     requires { All (Contains classes.now) wanted.now }
     ensures len { IfOk result (λ columns. length columns.items ≡ length wanted.now) }
     ensures within { IfOk result (λ columns. All (λ column. column < length classes.now) columns.items) }
-    ensures values { IfOk result (λ columns. (f : ℕ → ℕ) → picked columns.items (map f classes.now) ≡ map f wanted.now) }
+    ensures values { IfOk result (λ columns. (f : ℕ → ℕ) →
+        picked columns.items (map f classes.now) ≡ map f wanted.now) }
 {
     let mut columns = Vec::new(alloc);
     for class in wanted {

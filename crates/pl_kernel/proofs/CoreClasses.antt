@@ -8,7 +8,7 @@ use Rattle.pl_hyper.specs.ClassOrder.{classes_of, first_appearances}
 use Rattle.pl_hyper.proofs.Orders.{in_classes, classes_contain, classes_rise}
 use Rattle.pl_hyper.proofs.Rising.{same_rising}
 use Rattle.pl_join.specs.Relation.{ClassRows, Holds as IsHeld, HoldsAll, IsJoinOfAll}
-use Rattle.pl_kernel.specs.ClassesMet.{rising, classes_met}
+use Rattle.pl_kernel.specs.ClassesByAppearance.{rising, classes_by_appearance}
 use Rattle.pl_kernel.proofs.Meeting.{rising_rises, rising_contains}
 
 all_members : (P : ℕ → Type 0) (xs : List ℕ) → ((x : ℕ) → Contains xs x → P x) → All P xs
@@ -43,7 +43,7 @@ all_rising edges (e ∷ es) (r ∷ rs) many over =
 pub core_classes : (edges core : List ℕ) (relations : List ClassRows) → length relations ≡ length core
     → ((i c : ℕ) (d : ClassRows) → i < length core → Contains (slice_index_or relations i d).classes c
     ↔ ((c < 64) × Holds edges (slice_index core i) c))
-    → classes_met relations ≡ first_appearances (flat_map (λ e. classes_of (slice_index edges e)) core)
+    → classes_by_appearance relations ≡ first_appearances (flat_map (λ e. classes_of (slice_index edges e)) core)
 core_classes edges core relations many over = ap first_appearances (all_rising edges core relations many over)
 
 pub join_of_one : (relation : ClassRows) → IsJoinOfAll (relation ∷ []) relation

@@ -12,7 +12,7 @@ use Rattle.pl_hyper.proofs.Members.{range_contains, range_rises}
 use Rattle.pl_hyper.proofs.Orders.{member, member_contains, contains_member, first_appearances-append, first_appearances-rising, first_contains, within_first, first_once}
 use Rattle.pl_join.specs.Relation.{ClassRows, AreDistinct, has_class, without}
 use Rattle.pl_join.proofs.Members.{Contains-filter, Contains-from_filter, Contains-flat_map, Contains-from_flat_map, has_class-Contains}
-use Rattle.pl_kernel.specs.ClassesMet.{rising_below, rising, classes_met}
+use Rattle.pl_kernel.specs.ClassesByAppearance.{rising_below, rising, classes_by_appearance}
 use Rattle.pl_kernel.specs.Joining.{IsClassOf}
 
 -- ---- the classes of one relation, rising
@@ -77,20 +77,20 @@ first_more classes more up =
     ∙ filter_agree (λ c. not (member classes c)) (λ c. not (has_class (first_appearances classes) c)) (λ c. ap not (same_test classes c)) more)
 
 -- the classes of the relation at a place come behind those that the relations before it have
-pub classes_met-more : (relations : List ClassRows) (i : ℕ) (d : ClassRows) → i < length relations → classes_met (take (i + 1) relations) ≡ classes_met (take i relations) ++ without (rising (get_or relations i d).classes) (classes_met (take i relations))
-classes_met-more relations i d within =
+pub classes_by_appearance-more : (relations : List ClassRows) (i : ℕ) (d : ClassRows) → i < length relations → classes_by_appearance (take (i + 1) relations) ≡ classes_by_appearance (take i relations) ++ without (rising (get_or relations i d).classes) (classes_by_appearance (take i relations))
+classes_by_appearance-more relations i d within =
     let F : ClassRows → List ℕ = λ r. rising r.classes in
-    ap classes_met (take_more relations i d within)
+    ap classes_by_appearance (take_more relations i d within)
     ∙ ap first_appearances (flat_map-append F (take i relations) (get_or relations i d ∷ []) ∙ ap (λ cs. flat_map F (take i relations) ++ cs) (append-nil (F (get_or relations i d))))
     ∙ first_more (flat_map F (take i relations)) (F (get_or relations i d)) (rising_rises (get_or relations i d).classes)
 
 -- the loop's step: what is fresh of the relation at a place is appended to the classes that were met
-pub order_more : (relations : List ClassRows) (i : ℕ) (relation : ClassRows) (met slice classes fresh appended new : List ℕ) → i < length relations → relation ≡ get_or relations i relation → met ≡ classes_met (take i relations) → slice ≡ met → classes ≡ relation.classes → fresh ≡ without (rising classes) slice → appended ≡ fresh → new ≡ met ++ appended → new ≡ classes_met (take (i + 1) relations)
+pub order_more : (relations : List ClassRows) (i : ℕ) (relation : ClassRows) (met slice classes fresh appended new : List ℕ) → i < length relations → relation ≡ get_or relations i relation → met ≡ classes_by_appearance (take i relations) → slice ≡ met → classes ≡ relation.classes → fresh ≡ without (rising classes) slice → appended ≡ fresh → new ≡ met ++ appended → new ≡ classes_by_appearance (take (i + 1) relations)
 order_more relations i relation met slice classes fresh appended new within is so_far same_met same_classes fresh_is same_fresh new_is =
-    let more : appended ≡ without (rising (get_or relations i relation).classes) (classes_met (take i relations)) =
+    let more : appended ≡ without (rising (get_or relations i relation).classes) (classes_by_appearance (take i relations)) =
     same_fresh ∙ fresh_is ∙ ap (λ cs. without (rising cs) slice) (same_classes ∙ ap (λ (r : ClassRows). r.classes) is)
     ∙ ap (λ known. without (rising (get_or relations i relation).classes) known) (same_met ∙ so_far) in
-    new_is ∙ ap (λ cs. cs ++ appended) so_far ∙ ap (λ cs. classes_met (take i relations) ++ cs) more ∙ sym (classes_met-more relations i relation within)
+    new_is ∙ ap (λ cs. cs ++ appended) so_far ∙ ap (λ cs. classes_by_appearance (take i relations) ++ cs) more ∙ sym (classes_by_appearance-more relations i relation within)
 
 -- the classes of the relation at a place are below 64 too
 pub below_more_relations : (relations : List ClassRows) (i : ℕ) (relation : ClassRows) → i < length relations → relation ≡ get_or relations i relation → All (λ (r : ClassRows). All (λ c. c < 64) r.classes) (take i relations) → All (λ c. c < 64) relation.classes → All (λ (r : ClassRows). All (λ c. c < 64) r.classes) (take (i + 1) relations)
@@ -100,11 +100,11 @@ below_more_relations relations i relation within is so_far here =
 
 -- ---- what the order holds
 
-pub classes_met-distinct : (relations : List ClassRows) → AreDistinct (classes_met relations)
-classes_met-distinct relations = first_once (flat_map (λ r. rising r.classes) relations)
+pub classes_by_appearance-distinct : (relations : List ClassRows) → AreDistinct (classes_by_appearance relations)
+classes_by_appearance-distinct relations = first_once (flat_map (λ r. rising r.classes) relations)
 
-pub classes_met-members : (relations : List ClassRows) → All (λ r. All (λ c. c < 64) r.classes) relations → (c : ℕ) → Contains (classes_met relations) c ↔ IsClassOf relations c
-classes_met-members relations below c = (
+pub classes_by_appearance-members : (relations : List ClassRows) → All (λ r. All (λ c. c < 64) r.classes) relations → (c : ℕ) → Contains (classes_by_appearance relations) c ↔ IsClassOf relations c
+classes_by_appearance-members relations below c = (
   λ h. (let (r, at, has) = Contains-from_flat_map F relations c (within_first (flat_map F relations) c h) in
       (r, at, (rising_contains r.classes (below_at r at) c).0 has)),
   λ (r, at, has). first_contains (flat_map F relations) c (Contains-flat_map F relations r c at ((rising_contains r.classes (below_at r at) c).1 has)),
@@ -117,8 +117,8 @@ classes_met-members relations below c = (
     below_at r at = All-contains (λ (x : ClassRows). All (λ k. k < 64) x.classes) relations r below at
 
 -- all relations were gone through
-pub all_members : (relations : List ClassRows) (i : ℕ) (met : List ℕ) → length relations ≤ i → met ≡ classes_met (take i relations) → All (λ (r : ClassRows). All (λ c. c < 64) r.classes) (take i relations) → (c : ℕ) → Contains met c ↔ IsClassOf relations c
+pub all_members : (relations : List ClassRows) (i : ℕ) (met : List ℕ) → length relations ≤ i → met ≡ classes_by_appearance (take i relations) → All (λ (r : ClassRows). All (λ c. c < 64) r.classes) (take i relations) → (c : ℕ) → Contains met c ↔ IsClassOf relations c
 all_members relations i met past so_far below c =
     let all : take i relations ≡ relations = take_all i relations past in
-    subst (λ cs. Contains cs c ↔ IsClassOf relations c) (sym (so_far ∙ ap classes_met all))
-    (classes_met-members relations (subst (All (λ (r : ClassRows). All (λ k. k < 64) r.classes)) all below) c)
+    subst (λ cs. Contains cs c ↔ IsClassOf relations c) (sym (so_far ∙ ap classes_by_appearance all))
+    (classes_by_appearance-members relations (subst (All (λ (r : ClassRows). All (λ k. k < 64) r.classes)) all below) c)

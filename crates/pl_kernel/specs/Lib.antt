@@ -1,5 +1,5 @@
 -- what the public contract rests on
-pub mod ClassesMet
+pub mod ClassesByAppearance
 pub use Rattle.pl_hyper.specs.ClassOrder
 pub use Rattle.pl_join.specs.Relation
 -- what the functions inside the crate promise each other

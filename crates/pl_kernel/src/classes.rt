@@ -2,7 +2,7 @@
 
 ghost use Rattle.std.specs.Prelude.{◌≡◌, ◌↔◌, ℕ, Contains, IfOk};
 ghost use Rattle.pl_join.specs.Relation.{AreDistinct, has_class, without};
-ghost use Rattle.pl_kernel.specs.ClassesMet.{rising, classes_met};
+ghost use Rattle.pl_kernel.specs.ClassesByAppearance.{rising, classes_by_appearance};
 ghost use Rattle.pl_kernel.specs.Joining.{IsClassOf};
 
 use pl_join::Relation;
@@ -13,7 +13,7 @@ const CLASSES: u32 = 64;
 
 /// The classes of the relations by first appearance, within one relation by rising number.
 pub fn ordered_classes(alloc: Global, relations: &[Relation]) -> Result<Vec<u32>, AllocError>
-    ensures order { IfOk result (λ v. v.items ≡ classes_met relations.now) }
+    ensures order { IfOk result (λ v. v.items ≡ classes_by_appearance relations.now) }
     ensures distinct { IfOk result (λ v. AreDistinct v.items) }
     ensures members { IfOk result (λ v. (c : ℕ) → Contains v.items c ↔ IsClassOf relations.now c) }
 {

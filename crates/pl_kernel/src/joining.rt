@@ -2,7 +2,7 @@
 
 ghost use Rattle.std.specs.Prelude.{◌≡◌, ◌+◌, ◌<◌, ◌≤◌, ◌∷◌, [], ◌↔◌, ℕ, length, map, Contains, IfOk};
 ghost use Rattle.pl_join.specs.Relation.{ClassRows, Assignment, AreDistinct, Holds, IsJoinOfAll};
-ghost use Rattle.pl_kernel.specs.ClassesMet.{classes_met};
+ghost use Rattle.pl_kernel.specs.ClassesByAppearance.{classes_by_appearance};
 ghost use Rattle.pl_kernel.specs.Joining.{HaveSameJoin};
 
 use crate::classes::ordered_classes;
@@ -17,15 +17,16 @@ use std::sync::ledger::Ledger;
 /// It begins with the first relation, goes on with the first remaining one that shares a class with those joined, and
 /// takes the first remaining one where none does. That order changes the work, and neither the rows nor the classes.
 ///
-/// The only error is want of memory. The probes are those of the joins, and one per row of what is brought into order at
-/// the end: a join whose classes came in another order. For one relation it takes at most one probe per row.
+/// The only error is want of memory. The probes are those of the joins, and one per row of what is brought
+/// into order at the end: a join whose classes came in another order. For one relation it takes at most one
+/// probe per row.
 pub fn core_table<L: Ledger>(
     alloc: Global,
     core: &[Relation],
     steps: &mut Steps<L>,
 ) -> Result<Relation, AllocError>
     requires { 0 < length core.now }
-    ensures classes { IfOk result (λ r. r.classes ≡ classes_met core.now) }
+    ensures classes { IfOk result (λ r. r.classes ≡ classes_by_appearance core.now) }
     ensures rows { IfOk result (IsJoinOfAll core.now) }
     ensures one { (relation : ClassRows) → core.now ≡ relation ∷ []
         → steps.new ≤ steps.old + length relation.rows }

@@ -1,6 +1,7 @@
 //! The join of the core of a cyclic schema: all of its relations in one.
 //!
-//! What the join is, stands in `specs/Relation.antt` of `pl_join`, and the order of its classes in `specs/ClassesMet.antt`.
+//! What the join is, stands in `specs/Relation.antt` of `pl_join`, and the order of its classes in
+//! `specs/ClassesByAppearance.antt`.
 #![tactic(auto)]
 
 mod classes;

@@ -145,7 +145,7 @@ one_typed : (task : Task) (o t : ℕ) (d : Option ObjectDef) (rest : Bool) → s
 one_typed task o t (Some d) rest at later has = slice_get_within task.objects o d at
 one_typed task o t None rest at later has = later (sym (ap (λ b. b || rest) (ap (is_of_type_by task t) at)) ∙ has)
 
-typed_within : (task : Task) (types : List ℕ) (o : ℕ) → has_some_type task types o ≡ true → o < length task.objects
+pub typed_within : (task : Task) (types : List ℕ) (o : ℕ) → has_some_type task types o ≡ true → o < length task.objects
 typed_within task [] o h = absurd (false≢true h)
 typed_within task (t ∷ ts) o h = one_typed task o t (slice_get task.objects o) (has_some_type task ts o) refl (typed_within task ts o) h
 

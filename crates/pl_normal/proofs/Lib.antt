@@ -15,6 +15,6 @@ mod Loops
 mod Merging
 mod Tabling
 mod Numbers
-mod KindLemmas
+pub mod KindLemmas
 -- the tests
 mod Below

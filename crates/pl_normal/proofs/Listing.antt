@@ -124,7 +124,7 @@ pub record IsTuple (n k : ℕ) (tuple : List ℕ) : Type 0 where
 abbrev tuple_block : ℕ → ℕ → ℕ → List (List ℕ)
 tuple_block n k o = map (λ rest. o ∷ rest) (tuples n k)
 
-tuple_is : (n k : ℕ) (tuple : List ℕ) → Contains (tuples n k) tuple → IsTuple n k tuple
+pub tuple_is : (n k : ℕ) (tuple : List ℕ) → Contains (tuples n k) tuple → IsTuple n k tuple
 tuple_is n zero tuple h = elim (Contains-cons_cases [] [] tuple h) [
   | inl e ↦ subst (IsTuple n 0) e (record { many = refl; below = λ x c. absurd (Contains-nil x c) })
   | inr r ↦ absurd (Contains-nil tuple r)
@@ -145,7 +145,7 @@ tuple_is n (suc k) tuple h = of_block (λ rest m. tuple_is n k rest m) (Contains
     of_block : ((rest : List ℕ) → Contains (tuples n k) rest → IsTuple n k rest) → (o : ℕ) × Contains (range_with_len 0 n) o × Contains (tuple_block n k o) tuple → IsTuple n (suc k) tuple
     of_block next (o, low, m) = of_rest next o (within_range n o low) (Contains-from_map (λ rest. o ∷ rest) (tuples n k) tuple m)
 
-is_tuple : (n k : ℕ) (tuple : List ℕ) → IsTuple n k tuple → Contains (tuples n k) tuple
+pub is_tuple : (n k : ℕ) (tuple : List ℕ) → IsTuple n k tuple → Contains (tuples n k) tuple
 is_tuple n zero [] is = Contains-cons_first [] []
 is_tuple n zero (x ∷ rest) is = absurd (let long = is.many in omega arith)
 is_tuple n (suc k) [] is = absurd (let long = is.many in omega arith)
@@ -153,7 +153,7 @@ is_tuple n (suc k) (x ∷ rest) is =
     Contains-flat_map (tuple_block n k) (range_with_len 0 n) x (x ∷ rest) (range_contains n x (is.below x (Contains-cons_first x rest)))
     (Contains-map (λ r. x ∷ r) (tuples n k) rest (is_tuple n k rest (record { many = (let long = is.many in omega arith); below = λ y c. is.below y (Contains-cons_rest x rest y c) })))
 
-tuples_ascend : (n k : ℕ) → IsStrictlySortedBy row_cmp (tuples n k)
+pub tuples_ascend : (n k : ℕ) → IsStrictlySortedBy row_cmp (tuples n k)
 tuples_ascend n zero = sorted_first row_cmp [] [] (λ y c. absurd (Contains-nil y c)) (sorted_none row_cmp)
 tuples_ascend n (suc k) =
     sorted_blocks row_cmp (tuple_block n k) (range_with_len 0 n) (range_rises n)

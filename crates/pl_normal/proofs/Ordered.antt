@@ -3,7 +3,7 @@ use Rattle.std.proofs.Common.{◌≡◌, ◌≢◌, ℕ, ◌<◌, ◌≤◌, ◌
 use Rattle.std.specs.Prelude.{slice_index}
 use Rattle.std.specs.Int.{bit_at}
 use Rattle.std.specs.List.{AllPairs, filter, fold, range_with_len}
-use Rattle.std.proofs.lemmas.Bool.{false≢true}
+use Rattle.std.proofs.lemmas.Bool.{false≢true, cases_lt}
 use Rattle.std.proofs.lemmas.Bool.Decides.{Decides-eqb}
 use Rattle.std.proofs.lemmas.List.FromFn.{length-range_with_len}
 use Rattle.std.proofs.lemmas.List.{reverse-append}
@@ -19,6 +19,7 @@ use Rattle.pl_hyper.specs.ClassOrder.{classes_of, walk_order, class_order}
 use Rattle.pl_hyper.proofs.Members.{same_or_not, range_contains, within_range, range_rises}
 use Rattle.pl_hyper.proofs.Orders.{first_contains, within_first, first_once, in_classes, classes_contain}
 use Rattle.pl_hyper.proofs.Removals.{IsWalkable-removal}
+use Rattle.pl_hyper.proofs.Bits.{no_bit, or_bit}
 use Rattle.pl_task.specs.declared.data.Literal.{Literal}
 use Rattle.pl_task.specs.declared.data.Literal.TheVariants as literal
 use Rattle.pl_task.specs.declared.data.Schema.{Schema}
@@ -37,7 +38,6 @@ use Rattle.pl_normal.specs.ParameterOrder.{is_among, then_others, classes_in_ord
 use Rattle.pl_normal.specs.Laws.{IsOrderOfAll}
 use Rattle.pl_normal.proofs.Joined.{class_of-within, class_of-class}
 use Rattle.pl_normal.proofs.Lists.{one_passes, passing_one}
-use Rattle.pl_normal.proofs.Sets.{or_bit}
 use Rattle.pl_normal.proofs.Removing.{ear_removal-is, ear_removal-edges}
 use Rattle.pl_normal.proofs.SlotLemmas.{slot_of_class, slot_is, parameter_slots-length}
 use Rattle.pl_normal.proofs.Answering.{type_edge_among}
@@ -49,9 +49,6 @@ fixed_class o c h = cc
 
 same_class : (c d : ℕ) → Class c ≡ Class d → c ≡ d
 same_class c d h = cc
-
-no_bit : (c : ℕ) → bit_at 0 c ≡ 1 → ⊥
-no_bit c h = let none : bit_at 0 c ≡ 0 = bit_at-zero c in omega arith
 
 no_other : (c d : ℕ) → c ≢ d → bit_at (2 ^ d) c ≡ 1 → ⊥
 no_other c d n h = let none : bit_at (2 ^ d) c ≡ 0 = bit_at-pow_other d c n in omega arith
@@ -108,9 +105,6 @@ set_bits slots c = (
 abbrev pub IsUnfixed : Schema → ℕ → Type 0
 IsUnfixed schema c = (p : ℕ) × (p < length schema.parameters) × (slot_at (parameter_slots schema) p ≡ Class c)
 
-below_or_not : (a b : ℕ) → (a < b) ⊎ (b ≤ a)
-below_or_not a b = grind arith
-
 past_default : (xs : List Slot) (p : ℕ) → length xs ≤ p → get_or xs p (Fixed 0) ≡ Fixed 0
 past_default [] p h = refl
 past_default (x ∷ xs) zero h = absurd (omega arith)
@@ -119,7 +113,7 @@ past_default (x ∷ xs) (suc p) h = past_default xs p (omega arith)
 -- the class of a term is unfixed
 pub term_unfixed : (schema : Schema) (t : Term) (c : ℕ) → slot_of (parameter_slots schema) t ≡ Class c → IsUnfixed schema c
 term_unfixed schema (term.Object o) c h = absurd (fixed_class o c h)
-term_unfixed schema (term.Parameter p) c h = elim (below_or_not p (length schema.parameters)) [
+term_unfixed schema (term.Parameter p) c h = elim (cases_lt p (length schema.parameters)) [
   | inl below ↦ (p, below, h)
   | inr past ↦ (let long = parameter_slots-length schema in absurd (fixed_class 0 c (sym (past_default (parameter_slots schema) p (omega arith)) ∙ h)))
 ]

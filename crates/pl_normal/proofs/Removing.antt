@@ -10,7 +10,7 @@ use Rattle.pl_hyper.specs.Edges.{edge_numbers}
 use Rattle.pl_hyper.specs.Ears.{IsEar, IsFirstEar, Removes, Removal, IsRemoval, without}
 use Rattle.pl_hyper.proofs.Members.{same_or_not, without_rises, range_rises, rises_tail, rises_head}
 use Rattle.pl_hyper.proofs.Removals.{Removes-push, IsRemoval-unique}
-use Rattle.pl_normal.specs.EarRemoval.{serves, is_server, ear_or, first_ear_among, Underway, without_ear, ears_removed, ear_removal}
+use Rattle.pl_normal.specs.EarRemoval.{serves, is_parent, ear_or, first_ear_among, Underway, without_ear, ears_removed, ear_removal}
 use Rattle.pl_normal.proofs.Lists.{passes_all, all_pass, found, not_found}
 use Rattle.pl_normal.proofs.Sets.{serves-is}
 
@@ -27,9 +27,9 @@ not_equal a b h e = false≢true (ap not (sym (eq-eqb a b e)) ∙ h)
 equal_not : (a b : ℕ) → a ≢ b → not (a == b) ≡ true
 equal_not a b n = ap not (ne_eqb a b n)
 
--- what the test of a server says
-server_serves : (edges remaining : List ℕ) (edge parent : ℕ) → Contains remaining edge → Contains remaining parent → is_server edges remaining edge parent ≡ true → IsEar edges remaining edge parent
-server_serves edges remaining edge parent e p h =
+-- what the test of a parent says
+parent_serves : (edges remaining : List ℕ) (edge parent : ℕ) → Contains remaining edge → Contains remaining parent → is_parent edges remaining edge parent ≡ true → IsEar edges remaining edge parent
+parent_serves edges remaining edge parent e p h =
     let both = and_parts (not (edge == parent)) (list_all (serves_at edges edge parent) remaining) h in record {
       edge_remains = e;
       parent_remains = p;
@@ -41,7 +41,7 @@ server_serves edges remaining edge parent e p h =
           ];
     }
 
-ear_tested : (edges remaining : List ℕ) (edge parent : ℕ) → IsEar edges remaining edge parent → is_server edges remaining edge parent ≡ true
+ear_tested : (edges remaining : List ℕ) (edge parent : ℕ) → IsEar edges remaining edge parent → is_parent edges remaining edge parent ≡ true
 ear_tested edges remaining edge parent is =
     and_from (not (edge == parent)) (list_all (serves_at edges edge parent) remaining) (equal_not edge parent is.apart)
     (all_pass (serves_at edges edge parent) remaining (λ other c. elim (same_or_not other edge) [
@@ -52,20 +52,20 @@ ear_tested edges remaining edge parent is =
 -- the first of some edges that is an ear
 record IsFirstAmong (edges remaining es : List ℕ) (ear : Ear) : Type 0 where
   member : Contains es ear.edge
-  server : find (is_server edges remaining ear.edge) remaining ≡ Some ear.parent
-  least : (e f : ℕ) → Contains es e → find (is_server edges remaining e) remaining ≡ Some f → ear.edge ≤ e
+  parent : find (is_parent edges remaining ear.edge) remaining ≡ Some ear.parent
+  least : (e f : ℕ) → Contains es e → find (is_parent edges remaining e) remaining ≡ Some f → ear.edge ≤ e
 
 some_ear : (a b : Ear) → Some a ≡ Some b → a ≡ b
 some_ear a b h = cc
 
-among_cons : (edges remaining : List ℕ) (e : ℕ) (es : List ℕ) (ear : Ear) (server : Option ℕ) → find (is_server edges remaining e) remaining ≡ server → AllPairs (λ a b. a < b) (e ∷ es) →
-    (first_ear_among edges remaining es ≡ Some ear → IsFirstAmong edges remaining es ear) → ear_or e server (first_ear_among edges remaining es) ≡ Some ear → IsFirstAmong edges remaining (e ∷ es) ear
+among_cons : (edges remaining : List ℕ) (e : ℕ) (es : List ℕ) (ear : Ear) (parent : Option ℕ) → find (is_parent edges remaining e) remaining ≡ parent → AllPairs (λ a b. a < b) (e ∷ es) →
+    (first_ear_among edges remaining es ≡ Some ear → IsFirstAmong edges remaining es ear) → ear_or e parent (first_ear_among edges remaining es) ≡ Some ear → IsFirstAmong edges remaining (e ∷ es) ear
 among_cons edges remaining e es ear None s up next h =
     let is = next h in record {
       member = Contains-cons_rest e es ear.edge is.member;
-      server = is.server;
+      parent = is.parent;
       least = λ g f c k. elim (Contains-cons_cases e es g c) [
-        | inl same ↦ absurd (none_some f (sym (subst (λ x. find (is_server edges remaining x) remaining ≡ None) same s) ∙ k))
+        | inl same ↦ absurd (none_some f (sym (subst (λ x. find (is_parent edges remaining x) remaining ≡ None) same s) ∙ k))
         | inr r ↦ is.least g f r k
       ];
     }
@@ -76,7 +76,7 @@ among_cons edges remaining e es ear (Some parent) s up next h =
     let is : record { edge = e; parent = parent } ≡ ear = some_ear _ ear h in
     subst (IsFirstAmong edges remaining (e ∷ es)) is (record {
       member = Contains-cons_first e es;
-      server = s;
+      parent = s;
       least = λ g f c k. elim (Contains-cons_cases e es g c) [
         | inl same ↦ omega arith
         | inr r ↦ (let above = rises_head e es up g r in omega arith)
@@ -89,38 +89,38 @@ first_among edges remaining [] ear up h = absurd (none_some h)
     none_some : None ≡ Some ear → ⊥
     none_some q = cc
 first_among edges remaining (e ∷ es) ear up h =
-    among_cons edges remaining e es ear (find (is_server edges remaining e) remaining) refl up (λ k. first_among edges remaining es ear (rises_tail e es up) k) h
+    among_cons edges remaining e es ear (find (is_parent edges remaining e) remaining) refl up (λ k. first_among edges remaining es ear (rises_tail e es up) k) h
 
-none_cons : (edges remaining : List ℕ) (e : ℕ) (es : List ℕ) (server : Option ℕ) → find (is_server edges remaining e) remaining ≡ server → (g : ℕ) →
-    (first_ear_among edges remaining es ≡ None → Contains es g → find (is_server edges remaining g) remaining ≡ None) → ear_or e server (first_ear_among edges remaining es) ≡ None → Contains (e ∷ es) g → find (is_server edges remaining g) remaining ≡ None
+none_cons : (edges remaining : List ℕ) (e : ℕ) (es : List ℕ) (parent : Option ℕ) → find (is_parent edges remaining e) remaining ≡ parent → (g : ℕ) →
+    (first_ear_among edges remaining es ≡ None → Contains es g → find (is_parent edges remaining g) remaining ≡ None) → ear_or e parent (first_ear_among edges remaining es) ≡ None → Contains (e ∷ es) g → find (is_parent edges remaining g) remaining ≡ None
 none_cons edges remaining e es None s g next h c = elim (Contains-cons_cases e es g c) [
-  | inl same ↦ subst (λ x. find (is_server edges remaining x) remaining ≡ None) same s
+  | inl same ↦ subst (λ x. find (is_parent edges remaining x) remaining ≡ None) same s
   | inr r ↦ next h r
 ]
 none_cons edges remaining e es (Some parent) s g next h c = cc
 
-none_among : (edges remaining es : List ℕ) (g : ℕ) → first_ear_among edges remaining es ≡ None → Contains es g → find (is_server edges remaining g) remaining ≡ None
+none_among : (edges remaining es : List ℕ) (g : ℕ) → first_ear_among edges remaining es ≡ None → Contains es g → find (is_parent edges remaining g) remaining ≡ None
 none_among edges remaining [] g h c = absurd (Contains-nil g c)
 none_among edges remaining (e ∷ es) g h c =
-    none_cons edges remaining e es (find (is_server edges remaining e) remaining) refl g (λ k d. none_among edges remaining es g k d) h c
+    none_cons edges remaining e es (find (is_parent edges remaining e) remaining) refl g (λ k d. none_among edges remaining es g k d) h c
 
--- a server of an ear is found, at the latest this one
-server_found : (edges remaining : List ℕ) (e f : ℕ) (server : Option ℕ) → find (is_server edges remaining e) remaining ≡ server → IsEar edges remaining e f → (p : ℕ) × (find (is_server edges remaining e) remaining ≡ Some p)
-server_found edges remaining e f None s is = absurd (not_found (is_server edges remaining e) remaining f s is.parent_remains (ear_tested edges remaining e f is))
-server_found edges remaining e f (Some p) s is = (p, s)
+-- a parent of an ear is found, at the latest this one
+parent_found : (edges remaining : List ℕ) (e f : ℕ) (parent : Option ℕ) → find (is_parent edges remaining e) remaining ≡ parent → IsEar edges remaining e f → (p : ℕ) × (find (is_parent edges remaining e) remaining ≡ Some p)
+parent_found edges remaining e f None s is = absurd (not_found (is_parent edges remaining e) remaining f s is.parent_remains (ear_tested edges remaining e f is))
+parent_found edges remaining e f (Some p) s is = (p, s)
 
 is_first : (edges remaining : List ℕ) (ear : Ear) → AllPairs (λ a b. a < b) remaining → first_ear_among edges remaining remaining ≡ Some ear → IsFirstEar edges remaining ear.edge ear.parent
 is_first edges remaining ear up h =
     let first = first_among edges remaining remaining ear up h in
-    let server = found (is_server edges remaining ear.edge) remaining ear.parent up first.server in record {
-      is_ear = server_serves edges remaining ear.edge ear.parent first.member server.member server.passes;
-      least_edge = λ e f is. (let (p, at) = server_found edges remaining e f _ refl is in first.least e p is.edge_remains at);
-      least_parent = λ f is. server.least f is.parent_remains (ear_tested edges remaining ear.edge f is);
+    let parent = found (is_parent edges remaining ear.edge) remaining ear.parent up first.parent in record {
+      is_ear = parent_serves edges remaining ear.edge ear.parent first.member parent.member parent.passes;
+      least_edge = λ e f is. (let (p, at) = parent_found edges remaining e f _ refl is in first.least e p is.edge_remains at);
+      least_parent = λ f is. parent.least f is.parent_remains (ear_tested edges remaining ear.edge f is);
     }
 
 no_first : (edges remaining : List ℕ) → first_ear_among edges remaining remaining ≡ None → (e f : ℕ) → IsEar edges remaining e f → ⊥
 no_first edges remaining h e f is =
-    not_found (is_server edges remaining e) remaining f (none_among edges remaining remaining e h is.edge_remains) is.parent_remains (ear_tested edges remaining e f is)
+    not_found (is_parent edges remaining e) remaining f (none_among edges remaining remaining e h is.edge_remains) is.parent_remains (ear_tested edges remaining e f is)
 
 -- ---- the loop
 

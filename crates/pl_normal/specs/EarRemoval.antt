@@ -10,8 +10,8 @@ abbrev pub serves : ℕ → ℕ → ℕ → Bool
 serves edge other parent = bit_and (bit_and edge other) parent == bit_and edge other
 
 -- whether the parent is another edge that has each class which the edge shares with the remaining others
-abbrev pub is_server : List ℕ → List ℕ → ℕ → ℕ → Bool
-is_server edges remaining edge parent =
+abbrev pub is_parent : List ℕ → List ℕ → ℕ → ℕ → Bool
+is_parent edges remaining edge parent =
     not (edge == parent) && list_all (λ other. (other == edge) || serves (slice_index edges edge) (slice_index edges other) (slice_index edges parent)) remaining
 
 abbrev pub ear_or : ℕ → Option ℕ → Option Ear → Option Ear
@@ -21,7 +21,7 @@ ear_or edge (Some parent) other = Some (record { edge = edge; parent = parent })
 -- the first of some edges that a remaining one serves, with the first that does
 abbrev pub first_ear_among : List ℕ → List ℕ → List ℕ → Option Ear
 first_ear_among edges remaining [] = None
-first_ear_among edges remaining (e ∷ es) = ear_or e (find (is_server edges remaining e) remaining) (first_ear_among edges remaining es)
+first_ear_among edges remaining (e ∷ es) = ear_or e (find (is_parent edges remaining e) remaining) (first_ear_among edges remaining es)
 
 -- a removal that is under way: the ears that were removed, and the edges that remain
 pub record Underway : Type 0 where

@@ -11,6 +11,7 @@ use Rattle.pl_reduce.specs.Plan.{relation_at}
 use Rattle.pl_reduce.specs.Passes.{rows_at, total_rows}
 use Rattle.pl_reduce.specs.Arranged.{ordered, IsArrangedAt, AreArrangedBelow}
 use Rattle.pl_reduce.proofs.Lists.{all_members}
+use Rattle.pl_hyper.proofs.Members.{same_or_not}
 
 pub ordered_held : (order classes : List ℕ) → All (Contains classes) (ordered order classes)
 ordered_held order classes = all_members (Contains classes) (ordered order classes) (λ c h.
@@ -67,9 +68,6 @@ none_arranged order nodes limit l = record {
   same = λ k f. (λ h. h, λ h. h);
   fewer = λ k. omega arith;
 }
-
-same_or_not : (a b : ℕ) → (a ≡ b) ⊎ (a ≢ b)
-same_or_not a b = grind arith
 
 -- one relation more
 pub one_arranged : (order : List ℕ) (given old new : List ClassRows) (node : ℕ) → 0 < node → AreArrangedBelow order given old node → IsArrangedAt order old new node → AreArrangedBelow order given new (node + 1)

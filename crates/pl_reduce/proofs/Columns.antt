@@ -1,7 +1,7 @@
 -- The columns of a reduced join: how the nodes' classes stand in class order, and that the walk over the nodes meets them so.
 use Rattle.std.proofs.Common.{◌≡◌, ◌↔◌, ◌<◌, ◌≤◌, ℕ, Bool, true, false, not, suc, List, [], ◌∷◌, ◌++◌, length, map, take, drop, filter, reverse, get_or, Contains, All, refl, sym, ap, ◌∙◌, subst, inl, inr, arith}
 use Rattle.std.specs.Prelude.{slice_index}
-use Rattle.std.proofs.lemmas.Bool.{cases_Bool, false≢true}
+use Rattle.std.proofs.lemmas.Bool.{cases_Bool, false≢true, false_from_ne_true}
 use Rattle.std.proofs.lemmas.Bool.Decides.{Decides-eqb}
 use Rattle.std.proofs.lemmas.List.{append_assoc, append-nil, take_at, drop_at, length-append, reverse-append, reverse-reverse}
 use Rattle.std.proofs.lemmas.List.Concat.{flat_map-append}
@@ -16,15 +16,15 @@ use Rattle.pl_hyper.specs.ClassOrder.{classes_of, class_order, first_appearances
 use Rattle.pl_hyper.proofs.Orders.{met_by, member, contains_member, in_classes, classes_contain, first_appearances-append, within_first}
 use Rattle.pl_reduce.specs.Nodes.{Node, node_at, key_classes, new_classes}
 use Rattle.pl_reduce.specs.Plan.{core_order, edge_holds, edge_order, AreColumns}
-use Rattle.pl_reduce.specs.Walk.{walk_of, classes_met}
+use Rattle.pl_reduce.specs.Walk.{walk_of, classes_along}
 use Rattle.pl_reduce.proofs.Lists.{all_members, Contains-reverse}
 
 -- what `IsReduced` says of the nodes' columns, at the class order of a plan
 pub record AreLaid (plan : Removal) (nodes : List Node) : Type 0 where
   pub in_order : All (λ node. node.relation.classes ≡ filter (has_class node.relation.classes) (class_order plan)) nodes
   pub widths : All (λ node. node.width ≤ length node.relation.classes) nodes
-  pub order : class_order plan ≡ classes_met (walk_of nodes)
-  pub keys : (before after : List Node) (node : Node) → walk_of nodes ≡ before ++ node ∷ after → All (Contains (classes_met before)) (key_classes node)
+  pub order : class_order plan ≡ classes_along (walk_of nodes)
+  pub keys : (before after : List Node) (node : Node) → walk_of nodes ≡ before ++ node ∷ after → All (Contains (classes_along before)) (key_classes node)
 
 -- ---- filters of lists of classes
 
@@ -41,15 +41,11 @@ filter_same : (p q : ℕ → Bool) (xs : List ℕ) → ((c : ℕ) → Contains x
 filter_same p q [] same = refl
 filter_same p q (x ∷ xs) same = rw (same x (Contains-cons_first x xs), filter_same p q xs (λ c h. same c (Contains-cons_rest x xs c h))) refl
 
-false_where : (b : Bool) → (b ≡ true → ⊥) → b ≡ false
-false_where true n = absurd (n refl)
-false_where false n = refl
-
 -- what a filter keeps are the members that stand in what it keeps
 own_members : (p : ℕ → Bool) (xs : List ℕ) → filter p xs ≡ filter (has_class (filter p xs)) xs
 own_members p xs = filter_same p (has_class (filter p xs)) xs (λ c h. elim (cases_Bool (p c)) [
   | inl y ↦ y ∙ sym ((has_class-Contains (filter p xs) c).1 (Contains-filter p xs c h y))
-  | inr n ↦ n ∙ sym (false_where (has_class (filter p xs) c) (λ t.
+  | inr n ↦ n ∙ sym (false_from_ne_true (has_class (filter p xs) c) (λ t.
       let kept = Contains-from_filter p xs c ((has_class-Contains (filter p xs) c).0 t) in
       false≢true (sym n ∙ kept.1)))
 ])
@@ -58,7 +54,7 @@ own_members p xs = filter_same p (has_class (filter p xs)) xs (λ c h. elim (cas
 front_members : (front rest : List ℕ) → ((c : ℕ) → Contains rest c → Contains front c → ⊥) → front ≡ filter (has_class front) (front ++ rest)
 front_members front rest apart =
     let every : filter (has_class front) front ≡ front = filter_every (has_class front) front (λ c h. (has_class-Contains front c).1 h) in
-    let none : filter (has_class front) rest ≡ [] = filter_none (has_class front) rest (λ c h. false_where (has_class front c) (λ t. apart c h ((has_class-Contains front c).0 t))) in
+    let none : filter (has_class front) rest ≡ [] = filter_none (has_class front) rest (λ c h. false_from_ne_true (has_class front c) (λ t. apart c h ((has_class-Contains front c).0 t))) in
     sym (filter-append (has_class front) front rest ∙ ap (λ zs. filter (has_class front) front ++ zs) none ∙ append-nil (filter (has_class front) front) ∙ every)
 
 -- a filter that keeps the whole middle and nothing behind it
@@ -171,7 +167,7 @@ behind_below plan met rest c front h =
 
 -- the edge has no class behind the front that ends with it
 behind_lacks : (plan : Removal) (ear : Ear) (ears : List Ear) (rest : List ℕ) (c : ℕ) → IsFront plan (met_of plan (ear ∷ ears)) rest → Contains rest c → edge_holds plan ear.edge c ≡ false
-behind_lacks plan ear ears rest c front h = false_where (edge_holds plan ear.edge c) (λ t.
+behind_lacks plan ear ears rest c front h = false_from_ne_true (edge_holds plan ear.edge c) (λ t.
     let there : Contains (of_edge plan ear.edge) c = classes_contain (slice_index plan.edges ear.edge) c (behind_below plan (met_of plan (ear ∷ ears)) rest c front h) (held plan ear.edge c t) in
     front.apart c h (subst (λ cs. Contains cs c) (sym (met_of-cons plan ear ears)) (Contains-append_right (met_of plan ears) (of_edge plan ear.edge) c there)))
 
@@ -214,7 +210,7 @@ shared_met plan ear ears rest front served =
     ap (filter q) (edge_order_parts plan ear ears rest front)
     ∙ shared_part p q (first_appearances met) (fresh_of plan met ear.edge)
     (λ c h t. shown plan ear.parent c (met_shared plan ear (walked_of plan ears) c served (within_first met c h) (held plan ear.edge c t)))
-    (λ c h. false_where (q c) (λ t. fresh_not_shared plan ear (walked_of plan ears) c served h (held plan ear.parent c t)))
+    (λ c h. false_from_ne_true (q c) (λ t. fresh_not_shared plan ear (walked_of plan ears) c served h (held plan ear.parent c t)))
 
 -- ---- the node of an ear
 
@@ -347,20 +343,20 @@ root_key : (plan : Removal) (root : Node) → IsRoot plan root → key_classes r
 root_key plan root is = ap (λ n. take n root.relation.classes) is.width
 
 -- the walk meets a node's new classes after those of the nodes before it
-classes_met-more : (root node : Node) (nodes : List Node) → classes_met (root ∷ reverse (node ∷ nodes)) ≡ classes_met (root ∷ reverse nodes) ++ new_classes node
-classes_met-more root node nodes =
-    ap (λ ns. classes_met (root ∷ ns)) (reverse-append (node ∷ []) nodes)
+classes_along-more : (root node : Node) (nodes : List Node) → classes_along (root ∷ reverse (node ∷ nodes)) ≡ classes_along (root ∷ reverse nodes) ++ new_classes node
+classes_along-more root node nodes =
+    ap (λ ns. classes_along (root ∷ ns)) (reverse-append (node ∷ []) nodes)
     ∙ flat_map-append new_classes (root ∷ reverse nodes) (node ∷ [])
-    ∙ ap (λ cs. classes_met (root ∷ reverse nodes) ++ cs) (append-nil (new_classes node))
+    ∙ ap (λ cs. classes_along (root ∷ reverse nodes) ++ cs) (append-nil (new_classes node))
 
 -- the walk over some nodes meets the classes of their ears and the core, each once, in class order
-met_once : (plan : Removal) (root : Node) (ears : List Ear) (nodes : List Node) → IsRoot plan root → AreLaidOver plan ears nodes → classes_met (root ∷ reverse nodes) ≡ first_appearances (met_of plan ears)
+met_once : (plan : Removal) (root : Node) (ears : List Ear) (nodes : List Node) → IsRoot plan root → AreLaidOver plan ears nodes → classes_along (root ∷ reverse nodes) ≡ first_appearances (met_of plan ears)
 met_once plan root [] [] is laid =
     append-nil (new_classes root) ∙ root_fresh plan root is ∙ ap (λ es. first_appearances (met_by plan.edges es)) (sym (append-nil plan.core))
 met_once plan root [] (node ∷ nodes) is laid = absurd laid
 met_once plan root (ear ∷ ears) [] is laid = absurd laid
 met_once plan root (ear ∷ ears) (node ∷ nodes) is laid =
-    classes_met-more root node nodes
+    classes_along-more root node nodes
     ∙ ap (λ cs. cs ++ new_classes node) (met_once plan root ears nodes is laid.1)
     ∙ ap (λ cs. first_appearances (met_of plan ears) ++ cs) laid.0.fresh
     ∙ sym (first_appearances-append (met_of plan ears) (of_edge plan ear.edge))
@@ -423,19 +419,19 @@ core_kept plan p tells =
     every c h = (tells c).1 (held_by c (within_first (met_by plan.edges plan.core) c h))
 
     none : (c : ℕ) → Contains (later_of plan) c → p c ≡ false
-    none c h = false_where (p c) (λ t. front.apart c h (met c (behind_below plan (met_by plan.edges plan.core) (later_of plan) c front h) ((tells c).0 t)))
+    none c h = false_from_ne_true (p c) (λ t. front.apart c h (met c (behind_below plan (met_by plan.edges plan.core) (later_of plan) c front h) ((tells c).0 t)))
 
 -- a node's key was met by the nodes that are walked before it
-key_met : (plan : Removal) (root node : Node) (after before : List Node) (ears : List Ear) → IsRoot plan root → AreLaidOver plan ears (after ++ node ∷ before) → All (Contains (classes_met (root ∷ reverse before))) (key_classes node)
+key_met : (plan : Removal) (root node : Node) (after before : List Node) (ears : List Ear) → IsRoot plan root → AreLaidOver plan ears (after ++ node ∷ before) → All (Contains (classes_along (root ∷ reverse before))) (key_classes node)
 key_met plan root node [] before [] is laid = absurd laid
 key_met plan root node [] before (ear ∷ ears) is laid =
-    all_members (Contains (classes_met (root ∷ reverse before))) (key_classes node) (λ c h.
+    all_members (Contains (classes_along (root ∷ reverse before))) (key_classes node) (λ c h.
     let kept = Contains-from_filter (edge_holds plan ear.edge) (first_appearances (met_of plan ears)) c (subst (λ cs. Contains cs c) laid.0.key h) in
     subst (λ cs. Contains cs c) (sym (met_once plan root ears before is laid.1)) kept.0)
 key_met plan root node (other ∷ after) before [] is laid = absurd laid
 key_met plan root node (other ∷ after) before (ear ∷ ears) is laid = key_met plan root node after before ears is laid.1
 
-keys_met : (plan : Removal) (root : Node) (others : List Node) → IsRoot plan root → AreLaidOver plan plan.removed others → (before after : List Node) (node : Node) → root ∷ reverse others ≡ before ++ node ∷ after → All (Contains (classes_met before)) (key_classes node)
+keys_met : (plan : Removal) (root : Node) (others : List Node) → IsRoot plan root → AreLaidOver plan plan.removed others → (before after : List Node) (node : Node) → root ∷ reverse others ≡ before ++ node ∷ after → All (Contains (classes_along before)) (key_classes node)
 keys_met plan root others is laid [] after node e =
     let same : root ≡ node = cc in
     subst (All (Contains [])) (sym (ap key_classes (sym same) ∙ root_key plan root is)) (All-nil (Contains []))
@@ -447,7 +443,7 @@ keys_met plan root others is laid (first ∷ before) after node e =
     ∙ ap (λ ns. ns ++ reverse before) (reverse-append (node ∷ []) after)
     ∙ append_assoc (reverse after) (node ∷ []) (reverse before) in
     let met = key_met plan root node (reverse after) (reverse before) plan.removed is (subst (AreLaidOver plan plan.removed) turned laid) in
-    subst (λ ns. All (Contains (classes_met ns)) (key_classes node)) (ap (λ ns. root ∷ ns) (reverse-reverse before) ∙ ap (λ n. n ∷ before) same) met
+    subst (λ ns. All (Contains (classes_along ns)) (key_classes node)) (ap (λ ns. root ∷ ns) (reverse-reverse before) ∙ ap (λ n. n ∷ before) same) met
 
 -- where the nodes are a root and the nodes of the ears
 laid_nodes : (plan : Removal) (root : Node) (others : List Node) → IsRoot plan root → AreLaidOver plan plan.removed others → AreLaid plan (root ∷ others)

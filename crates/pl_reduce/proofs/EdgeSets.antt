@@ -11,21 +11,11 @@ use Rattle.pl_rows.proofs.Canonical.{Contains-cons_first}
 use Rattle.pl_hyper.specs.Edges.{Holds}
 use Rattle.pl_hyper.specs.Ears.{Removal}
 use Rattle.pl_hyper.specs.ClassOrder.{IsHeldBy, class_order}
+use Rattle.pl_hyper.proofs.Bits.{or_bit}
 use Rattle.pl_reduce.specs.Plan.{core_order}
 use Rattle.pl_reduce.proofs.Columns.{core_kept}
 
 -- ---- bits
-
-max_one : (x y : ℕ) → max x y ≡ 1 → (x ≡ 1) ⊎ (y ≡ 1)
-max_one x y e = grind arith
-
-one_max : (x y : ℕ) → (x ≡ 1) ⊎ (y ≡ 1) → x < 2 → y < 2 → max x y ≡ 1
-one_max x y (inl a) h k = omega arith
-one_max x y (inr a) h k = omega arith
-
--- a class of either of two sets
-or_bit : (a b c : ℕ) → (bit_at (bit_or a b) c ≡ 1) ↔ ((bit_at a c ≡ 1) ⊎ (bit_at b c ≡ 1))
-or_bit a b c = (λ h. max_one (bit_at a c) (bit_at b c) (sym (bit_at_or a b c) ∙ h), λ h. bit_at_or a b c ∙ one_max (bit_at a c) (bit_at b c) h (bit_at-lt a c) (bit_at-lt b c))
 
 -- a set with one class more
 set_bit : (set class c : ℕ) → class < 64 → (bit_at (bit_or set (1 * 2 ^ class % 2 ^ 64)) c ≡ 1) ↔ ((bit_at set c ≡ 1) ⊎ (class ≡ c))

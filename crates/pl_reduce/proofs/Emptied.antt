@@ -3,12 +3,10 @@ use Rattle.std.proofs.Common.{◌≡◌, ◌≢◌, ◌⊎◌, ◌+◌, ◌<◌,
 use Rattle.std.proofs.lemmas.List.{get_or-set_same, get_or-set_other, length-set, get_or_default}
 use Rattle.pl_rows.proofs.Canonical.{Contains-nil}
 use Rattle.pl_join.specs.Relation.{ClassRows, Assignment, Holds, HoldsAll}
+use Rattle.pl_join.proofs.Assignments.{holds_none}
 use Rattle.pl_hyper.proofs.Members.{same_or_not}
 use Rattle.pl_reduce.specs.Plan.{relation_at}
 use Rattle.pl_reduce.specs.Passes.{AreReduced, AreEmptied, IsPassedUp, IsPassedDown}
-
-holds_none : (relation : ClassRows) (f : Assignment) → relation.rows ≡ [] → Holds relation f → ⊥
-holds_none relation f e h = Contains-nil (map f relation.classes) (subst (λ rows. Contains rows (map f relation.classes)) e h)
 
 -- no assignment is held by all where one relation has none
 pub none_held : (given nodes : List ClassRows) (k : ℕ) → AreReduced given nodes → k < length given → (relation_at nodes k).rows ≡ [] → (f : Assignment) → HoldsAll given f → ⊥

@@ -6,9 +6,7 @@ use Rattle.pl_join.proofs.Assignments.{map_agree}
 use Rattle.pl_reduce.specs.Plan.{relation_at}
 use Rattle.pl_reduce.specs.Passes.{Remains, AreParents, RemainingExtend, IsExtended, AreReduced, IsPassedUp, IsPassedDown, IsReducedBy}
 use Rattle.pl_reduce.proofs.Walks.{glued, glued_there, glued_elsewhere}
-
-same_or_not : (a b : ℕ) → (a ≡ b) ⊎ (a ≢ b)
-same_or_not a b = grind arith
+use Rattle.pl_hyper.proofs.Members.{same_or_not}
 
 -- an assignment is held with another that agrees on the classes
 held_along : (relation : ClassRows) (f g : Assignment) → Agree relation.classes f g → Holds relation f → Holds relation g

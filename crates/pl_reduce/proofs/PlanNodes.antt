@@ -7,6 +7,7 @@ use Rattle.std.proofs.lemmas.List.{get_or_default, get_or-drop, get_or-map, get_
 use Rattle.std.proofs.lemmas.Nat.Bits.{bit_at_above}
 use Rattle.std.specs.Int.{bit_at}
 use Rattle.std.specs.List.{flat_map}
+use Rattle.std.proofs.lemmas.Bool.{cases_lt}
 use Rattle.pl_join.specs.Relation.{ClassRows}
 use Rattle.pl_join.proofs.Members.{Contains-flat_map, Contains-from_flat_map}
 use Rattle.pl_hyper.specs.declared.ear.Ear.{Ear}
@@ -20,14 +21,11 @@ use Rattle.pl_reduce.specs.Passes.{Remains, AreParents}
 
 -- ---- where an edge leaves
 
-low_or_high : (a b : ℕ) → (a < b) ⊎ (b ≤ a)
-low_or_high a b = grind arith
-
 -- of members that differ, each stands at one place
 one_place : (xs : List ℕ) (x j k : ℕ) → AllPairs (λ a b. a ≢ b) xs → j < length xs → k < length xs → get_or xs j x ≡ x → get_or xs k x ≡ x → j ≡ k
-one_place xs x j k once l m a b = elim (low_or_high j k) [
+one_place xs x j k once l m a b = elim (cases_lt j k) [
   | inl low ↦ absurd (once j k x low m (a ∙ sym b))
-  | inr high ↦ (elim (low_or_high k j) [
+  | inr high ↦ (elim (cases_lt k j) [
     | inl low ↦ absurd (once k j x low l (b ∙ sym a))
     | inr same ↦ omega arith
   ])
@@ -132,7 +130,7 @@ are_parents plan nodes parents walk over are = record {
 -- ---- the classes of the nodes
 
 below_64 : (edge class : ℕ) → edge < 2 ^ 64 → bit_at edge class ≡ 1 → class < 64
-below_64 edge class small h = elim (low_or_high class 64) [
+below_64 edge class small h = elim (cases_lt class 64) [
   | inl low ↦ low
   | inr high ↦ (let none = bit_at_above edge 64 class small high in absurd (omega (arith, sym none ∙ h)))
 ]
@@ -228,7 +226,7 @@ parents_more plan parents after i p node grown up = record {
     last = ap (λ xs. get_or xs (suc i) 0) grown ∙ ap (λ n. get_or (parents ++ p ∷ []) n 0) (let many = up.many in omega arith) ∙ get_or-append_seam parents p [] 0
 
     are : (k : ℕ) (d : Ear) → k < i + 1 → IsNodeOf plan (ear_at plan k d).parent (slice_index after (suc k))
-    are k d l = elim (low_or_high k i) [
+    are k d l = elim (cases_lt k i) [
       | inl low ↦ subst (IsNodeOf plan (ear_at plan k d).parent) (sym (early k low)) (up.are k d low)
       | inr high ↦ (let same : i ≡ k = omega arith in
           subst (λ n. IsNodeOf plan (ear_at plan n d).parent (slice_index after (suc n))) same

@@ -19,7 +19,7 @@ use Rattle.pl_hyper.specs.Ears.{Removal, IsRemoval, IsWalkable, ear_at}
 use Rattle.pl_hyper.specs.ClassOrder.{class_order, IsClass}
 use Rattle.pl_reduce.specs.declared.reduced.Stored.{Stored}
 use Rattle.pl_reduce.specs.Nodes.{Node, node_at, relations_of, key_classes, new_classes}
-use Rattle.pl_reduce.specs.Walk.{walk_of, classes_met, GoesOn}
+use Rattle.pl_reduce.specs.Walk.{walk_of, classes_along, GoesOn}
 use Rattle.pl_reduce.specs.Plan.{AreOverPlan, AreColumns, relation_at, edge_holds, edge_order}
 use Rattle.pl_reduce.specs.PlanNodes.{AreParentNodes}
 use Rattle.pl_reduce.specs.Passes.{rows_at, total_rows, Remains, AreParents, AreReduced, IsPassedDown}
@@ -150,7 +150,7 @@ front_remains plan root rest arranged passed stored first node before number f m
     (each_holds (first ∷ before) f (node_at (map node_of stored) k) held (place.remain k within m))
 
 -- a class that the front met is one of a node that remains
-met_remains : (nodes : List Node) (first node : Node) (before : List Node) (number c : ℕ) → IsPlaced nodes first before node number → Contains (classes_met (first ∷ before)) c → (k : ℕ) × (k < length nodes) × Remains number k × Contains (node_at nodes k).relation.classes c
+met_remains : (nodes : List Node) (first node : Node) (before : List Node) (number c : ℕ) → IsPlaced nodes first before node number → Contains (classes_along (first ∷ before)) c → (k : ℕ) × (k < length nodes) × Remains number k × Contains (node_at nodes k).relation.classes c
 met_remains nodes first node before number c place h =
     let (other, among, new) = Contains-from_flat_map new_classes (first ∷ before) c h in
     let (k, l, m, e) = place.remaining other among in
@@ -166,9 +166,9 @@ made_goes_on plan root rest arranged passed stored made laid first node before a
     let (g, all, alike) = made.are_passed.extend number (omega (arith, many, within)) f (front_remains plan root rest arranged passed stored first node before number f made place held) in
     let relation : node.relation ≡ relation_at passed number = sym (ap (λ (n : Node). n.relation) place.is) ∙ relation_is plan root rest arranged passed stored number made place.within in
     let there : Holds node.relation g = subst (λ r. Holds r g) (sym relation) (made.are_passed.reduced.kept g number (omega (arith, many, within)) all) in
-    let keys : All (Contains (classes_met (first ∷ before))) (key_classes node) = laid.keys (first ∷ before) after node e in
+    let keys : All (Contains (classes_along (first ∷ before))) (key_classes node) = laid.keys (first ∷ before) after node e in
     let same : Agree (key_classes node) f g = λ c h.
-    (let (k, l, m, at) = met_remains (map node_of stored) first node before number c place (All-contains (Contains (classes_met (first ∷ before))) (key_classes node) c keys h) in
+    (let (k, l, m, at) = met_remains (map node_of stored) first node before number c place (All-contains (Contains (classes_along (first ∷ before))) (key_classes node) c keys h) in
     alike k (stored_node plan root rest arranged passed stored k made l).0 m c (subst (λ (r : ClassRows). Contains r.classes c) (relation_is plan root rest arranged passed stored k made l) at)) in
     some_row node.relation.rows (map g node.relation.classes) (begins_with (map f (key_classes node))) there (begins node.width node.relation.classes f g same)
 

@@ -11,7 +11,7 @@ use Rattle.pl_join.specs.Relation.{Assignment, AreDistinct, IsRelation, Holds, H
 use Rattle.pl_join.proofs.Assignments.{value_of, map_agree, agree_map, row_held}
 use Rattle.pl_join.proofs.Members.{Contains-map, has_class-Contains, Contains-flat_map, Contains-from_flat_map}
 use Rattle.pl_reduce.specs.Nodes.{Node, ReducedJoin, relations_of, key_classes, new_classes}
-use Rattle.pl_reduce.specs.Walk.{walk_of, classes_met}
+use Rattle.pl_reduce.specs.Walk.{walk_of, classes_along}
 use Rattle.pl_reduce.specs.Reduced.{IsReduced, JoinHolds, KeysAreHeldBefore, FrontsAreProjections}
 use Rattle.pl_reduce.proofs.Lists.{all_members, parted, Contains-reverse, found, parts_apart}
 
@@ -39,17 +39,17 @@ each_holds nodes f node all h =
     All-contains (λ relation. Holds relation f) (relations_of nodes) node.relation all (Contains-map (λ (n : Node). n.relation) nodes node h)
 
 -- the classes of a node that was walked have been met
-pub met : (join : ReducedJoin) → IsReduced join → (front rest : List Node) (node : Node) (c : ℕ) → walk_of join.nodes ≡ front ++ rest → Contains front node → Contains node.relation.classes c → Contains (classes_met front) c
+pub met : (join : ReducedJoin) → IsReduced join → (front rest : List Node) (node : Node) (c : ℕ) → walk_of join.nodes ≡ front ++ rest → Contains front node → Contains node.relation.classes c → Contains (classes_along front) c
 met join is front rest node c e h m =
     let (before, after, parts) = parted front node h in
     let whole : walk_of join.nodes ≡ before ++ node ∷ (after ++ rest) = e ∙ ap (λ xs. xs ++ rest) parts ∙ append_assoc before (node ∷ after) rest in
-    let keys : All (Contains (classes_met before)) (key_classes node) = is.keys before (after ++ rest) node whole in
+    let keys : All (Contains (classes_along before)) (key_classes node) = is.keys before (after ++ rest) node whole in
     let cut : Contains (key_classes node ++ new_classes node) c = subst (λ xs. Contains xs c) (sym (take-append-drop node.width node.relation.classes)) m in
     elim (Contains-append_cases (key_classes node) (new_classes node) c cut) [
       | inl k ↦ (
-          let early : Contains (classes_met before) c = All-contains (Contains (classes_met before)) (key_classes node) c keys k in
-          subst (λ xs. Contains xs c) (sym (ap classes_met parts ∙ flat_map-append new_classes before (node ∷ after)))
-          (Contains-append_left (classes_met before) (classes_met (node ∷ after)) c early))
+          let early : Contains (classes_along before) c = All-contains (Contains (classes_along before)) (key_classes node) c keys k in
+          subst (λ xs. Contains xs c) (sym (ap classes_along parts ∙ flat_map-append new_classes before (node ∷ after)))
+          (Contains-append_left (classes_along before) (classes_along (node ∷ after)) c early))
       | inr n ↦ Contains-flat_map new_classes front node c h n
     ]
 
@@ -78,14 +78,14 @@ key_agrees classes n row f whole begins =
     agree_map (take n classes) v f (sym same ∙ front)
 
 -- the classes that a node brings were not met before
-new_apart : (join : ReducedJoin) → IsReduced join → (front after : List Node) (node : Node) (c : ℕ) → walk_of join.nodes ≡ front ++ node ∷ after → Contains (classes_met front) c → Contains (new_classes node) c → ⊥
+new_apart : (join : ReducedJoin) → IsReduced join → (front after : List Node) (node : Node) (c : ℕ) → walk_of join.nodes ≡ front ++ node ∷ after → Contains (classes_along front) c → Contains (new_classes node) c → ⊥
 new_apart join is front after node c e h m =
-    let parts : join.classes ≡ classes_met front ++ classes_met (node ∷ after) = is.order ∙ ap classes_met e ∙ flat_map-append new_classes front (node ∷ after) in
-    parts_apart (classes_met front) (classes_met (node ∷ after)) c (subst AreDistinct parts is.distinct) h
-    (Contains-append_left (new_classes node) (classes_met after) c m)
+    let parts : join.classes ≡ classes_along front ++ classes_along (node ∷ after) = is.order ∙ ap classes_along e ∙ flat_map-append new_classes front (node ∷ after) in
+    parts_apart (classes_along front) (classes_along (node ∷ after)) c (subst AreDistinct parts is.distinct) h
+    (Contains-append_left (new_classes node) (classes_along after) c m)
 
 -- what agrees on the key agrees on each class of the node that was met
-met_agrees : (join : ReducedJoin) → IsReduced join → (front after : List Node) (node : Node) (v f : Assignment) (c : ℕ) → walk_of join.nodes ≡ front ++ node ∷ after → Agree (key_classes node) v f → Contains (classes_met front) c → Contains node.relation.classes c → v c ≡ f c
+met_agrees : (join : ReducedJoin) → IsReduced join → (front after : List Node) (node : Node) (v f : Assignment) (c : ℕ) → walk_of join.nodes ≡ front ++ node ∷ after → Agree (key_classes node) v f → Contains (classes_along front) c → Contains node.relation.classes c → v c ≡ f c
 met_agrees join is front after node v f c e keys m k =
     let cut : Contains (key_classes node ++ new_classes node) c = subst (λ xs. Contains xs c) (sym (take-append-drop node.width node.relation.classes)) k in
     elim (Contains-append_cases (key_classes node) (new_classes node) c cut) [
@@ -106,7 +106,7 @@ held_too front node n h m there here = elim (Contains-append_cases front (node �
 ]
 
 -- an assignment of a front goes on to the next node
-one_more : (join : ReducedJoin) → IsReduced join → (root : Node) (before after : List Node) (node : Node) (f : Assignment) → walk_of join.nodes ≡ root ∷ before ++ node ∷ after → HoldsAll (relations_of (root ∷ before)) f → (h : Assignment) × HoldsAll (relations_of (root ∷ before ++ node ∷ [])) h × Agree (classes_met (root ∷ before)) f h
+one_more : (join : ReducedJoin) → IsReduced join → (root : Node) (before after : List Node) (node : Node) (f : Assignment) → walk_of join.nodes ≡ root ∷ before ++ node ∷ after → HoldsAll (relations_of (root ∷ before)) f → (h : Assignment) × HoldsAll (relations_of (root ∷ before ++ node ∷ [])) h × Agree (classes_along (root ∷ before)) f h
 one_more join is root before after node f e held =
     let (row, at, begins) = found (begins_with (map f (key_classes node))) node.relation.rows (shows _ (is.goes_on root node before after f e held)) in
     let v : Assignment = value_of node.relation.classes row in
@@ -115,7 +115,7 @@ one_more join is root before after node f e held =
     let relation : IsRelation node.relation = All-contains (λ (n : Node). IsRelation n.relation) join.nodes node is.relations among in
     let whole : map v node.relation.classes ≡ row = row_held node.relation relation row at in
     let keys : Agree (key_classes node) v f = key_agrees node.relation.classes node.width row f whole begins in
-    let same : Agree (classes_met (root ∷ before)) f h = λ c m. sym (glued_elsewhere node.relation.classes v f c (λ k. met_agrees join is (root ∷ before) after node v f c e keys m k)) in
+    let same : Agree (classes_along (root ∷ before)) f h = λ c m. sym (glued_elsewhere node.relation.classes v f c (λ k. met_agrees join is (root ∷ before) after node v f c e keys m k)) in
     let here : Holds node.relation h = subst (Contains node.relation.rows) (sym (map_agree node.relation.classes h v (λ c k. glued_there node.relation.classes v f c k) ∙ whole)) at in
     let there : HoldsAll (relations_of (root ∷ before)) h = held_by_each (root ∷ before) h (λ n m.
     subst (Contains n.relation.rows) (map_agree n.relation.classes f h (λ c k. same c (met join is (root ∷ before) (node ∷ after) n c e m k)))
@@ -123,7 +123,7 @@ one_more join is root before after node f e held =
     (h, held_by_each (root ∷ before ++ node ∷ []) h (λ n m. held_too (root ∷ before) node n h m there here), same)
 
 -- an assignment of a front extends to one of the join that agrees with it on the classes met
-pub extends : (join : ReducedJoin) → IsReduced join → (root : Node) (before after : List Node) (f : Assignment) → walk_of join.nodes ≡ root ∷ before ++ after → HoldsAll (relations_of (root ∷ before)) f → (g : Assignment) × HoldsAll (relations_of (walk_of join.nodes)) g × Agree (classes_met (root ∷ before)) f g
+pub extends : (join : ReducedJoin) → IsReduced join → (root : Node) (before after : List Node) (f : Assignment) → walk_of join.nodes ≡ root ∷ before ++ after → HoldsAll (relations_of (root ∷ before)) f → (g : Assignment) × HoldsAll (relations_of (walk_of join.nodes)) g × Agree (classes_along (root ∷ before)) f g
 extends join is root before [] f e held =
     let whole : walk_of join.nodes ≡ root ∷ before = e ∙ append-nil (root ∷ before) in
     (f, subst (λ nodes. HoldsAll (relations_of nodes) f) (sym whole) held, λ c m. refl)
@@ -131,7 +131,7 @@ extends join is root before (node ∷ after) f e held =
     let (h, more, same) = one_more join is root before after node f e held in
     let parts : walk_of join.nodes ≡ root ∷ (before ++ node ∷ []) ++ after = e ∙ sym (append_assoc (root ∷ before) (node ∷ []) after) in
     let (g, all, agree) = extends join is root (before ++ node ∷ []) after h parts more in
-    (g, all, λ c m. same c m ∙ agree c (subst (λ xs. Contains xs c) (sym (flat_map-append new_classes (root ∷ before) (node ∷ []))) (Contains-append_left (classes_met (root ∷ before)) (classes_met (node ∷ [])) c m)))
+    (g, all, λ c m. same c m ∙ agree c (subst (λ xs. Contains xs c) (sym (flat_map-append new_classes (root ∷ before) (node ∷ []))) (Contains-append_left (classes_along (root ∷ before)) (classes_along (node ∷ [])) c m)))
 
 -- the walk's join is the nodes'
 pub walk_holds : (join : ReducedJoin) (f : Assignment) → JoinHolds join f → HoldsAll (relations_of (walk_of join.nodes)) f
@@ -176,13 +176,13 @@ rows_empty join is root others e none = empty root.relation.rows (λ row h. (let
 -- the key of a node has just the classes that a node walked before it holds
 pub keys_held : (join : ReducedJoin) → IsReduced join → KeysAreHeldBefore join
 keys_held join is before after node c e = (
-  λ k. (let (other, among, new) = Contains-from_flat_map new_classes before c (All-contains (Contains (classes_met before)) (key_classes node) c (is.keys before after node e) k) in
+  λ k. (let (other, among, new) = Contains-from_flat_map new_classes before c (All-contains (Contains (classes_along before)) (key_classes node) c (is.keys before after node e) k) in
       let held : Contains other.relation.classes c = subst (λ xs. Contains xs c) (take-append-drop other.width other.relation.classes) (Contains-append_right (key_classes other) (new_classes other) c new) in
       (subst (λ xs. Contains xs c) (take-append-drop node.width node.relation.classes) (Contains-append_left (key_classes node) (new_classes node) c k), (other, among, held))),
   λ (held, (other, among, there)). in_key held (met join is before (node ∷ after) other c e among there),
 )
   where
-    in_key : Contains node.relation.classes c → Contains (classes_met before) c → Contains (key_classes node) c
+    in_key : Contains node.relation.classes c → Contains (classes_along before) c → Contains (key_classes node) c
     in_key held m = elim (Contains-append_cases (key_classes node) (new_classes node) c (subst (λ xs. Contains xs c) (sym (take-append-drop node.width node.relation.classes)) held)) [
       | inl k ↦ k
       | inr n ↦ absurd (new_apart join is before after node c e m n)

@@ -2,7 +2,7 @@
 use Rattle.std.specs.Prelude.{◌≡◌, ◌<◌, ◌≤◌, ◌↔◌, ◌++◌, ◌∷◌, [], ℕ, List, length, filter, All, Contains}
 use Rattle.pl_join.specs.Relation.{ClassRows, Assignment, AreDistinct, IsRelation, Holds, HoldsAll, Agree, has_class}
 use Rattle.pl_reduce.specs.Nodes.{Node, ReducedJoin, relations_of, key_classes}
-use Rattle.pl_reduce.specs.Walk.{walk_of, classes_met, GoesOn}
+use Rattle.pl_reduce.specs.Walk.{walk_of, classes_along, GoesOn}
 
 -- the join of the nodes' relations has the assignment
 abbrev pub JoinHolds : ReducedJoin → Assignment → Type 0
@@ -18,8 +18,8 @@ pub record IsReduced (join : ReducedJoin) : Type 0 where
   pub in_order : All (λ node. node.relation.classes ≡ filter (has_class node.relation.classes) join.classes) join.nodes
   pub widths : All (λ node. node.width ≤ length node.relation.classes) join.nodes
   -- the walk meets the classes in class order, and those of a node's key before the node
-  pub order : join.classes ≡ classes_met (walk_of join.nodes)
-  pub keys : (before after : List Node) (node : Node) → walk_of join.nodes ≡ before ++ node ∷ after → All (Contains (classes_met before)) (key_classes node)
+  pub order : join.classes ≡ classes_along (walk_of join.nodes)
+  pub keys : (before after : List Node) (node : Node) → walk_of join.nodes ≡ before ++ node ∷ after → All (Contains (classes_along before)) (key_classes node)
   -- an assignment that the nodes of a front part of the walk hold goes on to the next node
   pub goes_on : (root node : Node) (before after : List Node) (f : Assignment) → walk_of join.nodes ≡ root ∷ before ++ node ∷ after → HoldsAll (relations_of (root ∷ before)) f → GoesOn f node
   -- where the root has no row, no node has one
@@ -34,7 +34,7 @@ KeysAreHeldBefore join = (before after : List Node) (node : Node) (c : ℕ) → 
 -- so every partial answer extends to an answer
 abbrev pub FrontsAreProjections : ReducedJoin → Type 0
 FrontsAreProjections join = (front rest : List Node) (f : Assignment) → walk_of join.nodes ≡ front ++ rest → 0 < length front →
-    HoldsAll (relations_of front) f ↔ ((g : Assignment) × JoinHolds join g × Agree (classes_met front) f g)
+    HoldsAll (relations_of front) f ↔ ((g : Assignment) × JoinHolds join g × Agree (classes_along front) f g)
 
 -- a relation is the projection of the join of some relations onto its classes
 abbrev pub IsProjectionOfJoin : List ClassRows → ClassRows → Type 0

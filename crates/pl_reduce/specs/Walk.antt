@@ -11,8 +11,8 @@ walk_of [] = []
 walk_of (root ∷ others) = root ∷ reverse others
 
 -- the classes in the order in which the walk meets them
-abbrev pub classes_met : List Node → List ℕ
-classes_met walk = flat_map new_classes walk
+abbrev pub classes_along : List Node → List ℕ
+classes_along walk = flat_map new_classes walk
 
 -- the node has a row with the values that the assignment gives to its key
 abbrev pub GoesOn : Assignment → Node → Type 0

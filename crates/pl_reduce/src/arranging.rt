@@ -21,7 +21,8 @@ pub fn arrange_all<L: Ledger>(
     requires distinct { AreDistinct order.now }
     requires held { (k : ℕ) → 0 < k → k < length nodes.old.items
         → All (Contains order.now) (relation_at nodes.old.items k).classes }
-    ensures arranged { OnOk result (AreArrangedBelow order.now nodes.old.items nodes.new.items (length nodes.old.items)) }
+    ensures arranged { OnOk result
+        (AreArrangedBelow order.now nodes.old.items nodes.new.items (length nodes.old.items)) }
     ensures cost { steps.new ≤ steps.old + total_rows nodes.old.items }
     ensures rise { steps.old ≤ steps.new }
 {

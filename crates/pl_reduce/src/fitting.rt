@@ -14,11 +14,12 @@ use pl_join::Relation;
 use std::alloc::{AllocError, Global};
 
 impl Reduced {
-    /// Whether the relations are as `reduce` wants them: there is an edge, `root` is over the classes of the core's edges,
-    /// in class order, and `rest` has one relation for each removed ear, over the classes of the ear's edge in any order.
+    /// Whether the relations are as `reduce` wants them: there is an edge, `root` is over the classes of the
+    /// core's edges, in class order, and `rest` has one relation for each removed ear, over the classes of
+    /// the ear's edge in any order.
     ///
-    /// It reads no row, and takes time linear in the edges and in the classes of the relations. The only error is want of
-    /// memory.
+    /// It reads no row, and takes time linear in the edges and in the classes of the relations. The only
+    /// error is want of memory.
     pub fn fits(
         alloc: Global,
         root: &Relation,

@@ -18,8 +18,9 @@ pub fn core_order_is_a_front()
     ensures { (plan : Removal) → take (length (core_order plan)) (class_order plan) ≡ core_order plan }
 {}
 
-/// Where the root is the join of the relations of the core's edges, and each of the rest holds what the relation of its ear's
-/// edge holds, the join of the root and the rest is the join of the relations of all edges.
+/// Where the root is the join of the relations of the core's edges, and each of the rest holds what the
+/// relation of its ear's edge holds, the join of the root and the rest is the join of the relations of all
+/// edges.
 pub fn join_of_all_edges()
     ensures { (plan : Removal) (relations rest : List ClassRows) (root : ClassRows) → IsWalkable plan
         → length relations ≡ length plan.edges

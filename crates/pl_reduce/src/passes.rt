@@ -11,9 +11,9 @@ use std::sync::ledger::Ledger;
 
 /// Reduces each relation to its part in the join of all.
 ///
-/// The nodes are gone through in the order of their removal, where each reduces its parent, and back, where each is reduced
-/// by its parent. After that no row is left that is in no answer. Where a relation has no row, or loses its last one on the way to
-/// the root, the join is empty, and no table is read any more.
+/// The nodes are gone through in the order of their removal, where each reduces its parent, and back, where
+/// each is reduced by its parent. After that no row is left that is in no answer. Where a relation has no
+/// row, or loses its last one on the way to the root, the join is empty, and no table is read any more.
 pub fn reduce_all<L: Ledger>(
     alloc: Global,
     nodes: &mut Vec<Relation>,

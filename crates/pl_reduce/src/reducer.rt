@@ -20,11 +20,13 @@ use std::sync::ledger::Ledger;
 impl Reduced {
     /// Reduces the relations of a join to the rows that are in its answers, by semijoins along a removal of ears.
     ///
-    /// `root` is over the classes of the core's edges, in class order, and `rest[i]` over those of the edge of the `i`-th
-    /// removed ear, in any order. This is the first half of Yannakakis's algorithm (1981): semijoins from the ears to
-    /// the root, in the order of their removal, and back. No pass copies a table from which it drops no row.
+    /// `root` is over the classes of the core's edges, in class order, and `rest[i]` over those of the edge
+    /// of the `i`-th removed ear, in any order. This is the first half of Yannakakis's algorithm (1981):
+    /// semijoins from the ears to the root, in the order of their removal, and back. No pass copies a table
+    /// from which it drops no row.
     ///
-    /// It takes at most `(3 * n - 1) * R` probes for `n` relations of `R` rows together. The only error is want of memory.
+    /// It takes at most `(3 * n - 1) * R` probes for `n` relations of `R` rows together. The only error is
+    /// want of memory.
     pub fn reduce<L: Ledger>(
         alloc: Global,
         root: Relation,

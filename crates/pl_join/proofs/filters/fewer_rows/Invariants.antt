@@ -8,6 +8,6 @@ invariant-loop-i g l = record {
   values : length l.values ≡ length l.sources;
   few : length l.kept.rows < l.i;
   arity : l.kept.arity ≡ l.table.arity;
-  rows : l.kept.rows ≡ filter (is_kept l.wanted (keys_of l.other) l.sources) (take l.i l.table.rows);
+  rows : l.kept.rows ≡ filter (is_kept l.keep (keys_of l.other) l.sources) (take l.i l.table.rows);
   cost : l.steps ≡ l.fn.steps + 2 * l.i;
 }

@@ -3,7 +3,7 @@ use Rattle.std.proofs.lemmas.List.{append-nil, length-append}
 use Rattle.std.proofs.lemmas.Result.{IfOk-weaker}
 use Rattle.pl_rows.specs.Rows.{Rows, AreRows}
 use Rattle.pl_join.specs.Relation.{ClassRows, AreDistinct, without}
-use Rattle.pl_join.specs.Source.{classes_by}
+use Rattle.pl_join.specs.Source.{shared_with}
 use Rattle.pl_join.proofs.Assignments.{few_classes}
 use Rattle.pl_join.proofs.Operations.{shared_held, chosen_is}
 use Rattle.pl_join.proofs.Joining.{none_left, all_among, arranged_held, arranged_distinct, arranged_few, joined_distinct, joined_below, joined_made}
@@ -12,50 +12,50 @@ use Rattle.pl_join.proofs.joins.hash_join.Goals as goal
 pub restricted-requires : goal.restricted-requires
 restricted-requires g c =
     let rest : c.as_slice-rest.result.now ≡ without c.args.right.now.classes c.args.left.now.classes =
-    chosen_is false c.args.right.now.classes c.args.left.now.classes _ _ _ _ c.classes-others.ensures.classes c.classes-classes.ensures.classes c.in_ok-rest.ensures c.as_slice-rest.ensures.value in
+    chosen_is without c.args.right.now.classes c.args.left.now.classes _ _ _ _ c.classes-others.ensures.classes c.classes-classes.ensures.classes c.in_ok-rest.ensures c.as_slice-rest.ensures.value in
     let empty = none_left c.args.right.now.classes c.args.left.now.classes c.as_slice-rest.result.now _ rest c.is_empty.ensures c.if-is_empty.true in
     all_among c.args.right.now.classes c.args.left.now.classes empty
 
 pub returns-then-is_empty-clause-classes : goal.returns-then-is_empty-clause-classes
 returns-then-is_empty-clause-classes g c =
     let rest : c.as_slice-rest.result.now ≡ without c.args.right.now.classes c.args.left.now.classes =
-    chosen_is false c.args.right.now.classes c.args.left.now.classes _ _ _ _ c.classes-others.ensures.classes c.classes-classes.ensures.classes c.in_ok-rest.ensures c.as_slice-rest.ensures.value in
+    chosen_is without c.args.right.now.classes c.args.left.now.classes _ _ _ _ c.classes-others.ensures.classes c.classes-classes.ensures.classes c.in_ok-rest.ensures c.as_slice-rest.ensures.value in
     let empty = none_left c.args.right.now.classes c.args.left.now.classes c.as_slice-rest.result.now _ rest c.is_empty.ensures c.if-is_empty.true in
     IfOk-weaker _ (λ (r : ClassRows). r.classes ≡ c.args.left.now.classes) (λ (r : ClassRows). r.classes ≡ c.args.left.now.classes ++ without c.args.right.now.classes c.args.left.now.classes)
     (λ r h. h ∙ sym (append-nil c.args.left.now.classes) ∙ ap (λ t. c.args.left.now.classes ++ t) (sym empty)) c.restricted.ensures.classes
 
 pub columns_of-requires : goal.columns_of-requires
 columns_of-requires g c =
-    let shared : c.as_slice-shared.result.now ≡ classes_by true c.args.right.now.classes c.args.left.now.classes =
-    chosen_is true c.args.right.now.classes c.args.left.now.classes _ _ _ _ c.classes-others.ensures.classes c.classes-classes.ensures.classes c.in_ok-shared.ensures c.as_slice-shared.ensures.value in
+    let shared : c.as_slice-shared.result.now ≡ shared_with c.args.right.now.classes c.args.left.now.classes =
+    chosen_is shared_with c.args.right.now.classes c.args.left.now.classes _ _ _ _ c.classes-others.ensures.classes c.classes-classes.ensures.classes c.in_ok-shared.ensures c.as_slice-shared.ensures.value in
     rw c.classes-classes.ensures.classes (subst (All (Contains c.args.left.now.classes)) (sym shared) (shared_held c.args.right.now.classes c.args.left.now.classes))
 
 pub indexed-requires-clause-held : goal.indexed-requires-clause-held
 indexed-requires-clause-held g c =
     let rest : c.as_slice-rest.result.now ≡ without c.args.right.now.classes c.args.left.now.classes =
-    chosen_is false c.args.right.now.classes c.args.left.now.classes _ _ _ _ c.classes-others.ensures.classes c.classes-classes.ensures.classes c.in_ok-rest.ensures c.as_slice-rest.ensures.value in
-    let shared : c.as_slice-shared.result.now ≡ classes_by true c.args.right.now.classes c.args.left.now.classes =
-    chosen_is true c.args.right.now.classes c.args.left.now.classes _ _ _ _ c.classes-others.ensures.classes c.classes-classes.ensures.classes c.in_ok-shared.ensures c.as_slice-shared.ensures.value in
-    let both : c.as_slice-shared.result.now ++ c.as_slice-rest.result.now ≡ classes_by true c.args.right.now.classes c.args.left.now.classes ++ without c.args.right.now.classes c.args.left.now.classes =
-    ap (λ s. s ++ c.as_slice-rest.result.now) shared ∙ ap (λ r. classes_by true c.args.right.now.classes c.args.left.now.classes ++ r) rest in
+    chosen_is without c.args.right.now.classes c.args.left.now.classes _ _ _ _ c.classes-others.ensures.classes c.classes-classes.ensures.classes c.in_ok-rest.ensures c.as_slice-rest.ensures.value in
+    let shared : c.as_slice-shared.result.now ≡ shared_with c.args.right.now.classes c.args.left.now.classes =
+    chosen_is shared_with c.args.right.now.classes c.args.left.now.classes _ _ _ _ c.classes-others.ensures.classes c.classes-classes.ensures.classes c.in_ok-shared.ensures c.as_slice-shared.ensures.value in
+    let both : c.as_slice-shared.result.now ++ c.as_slice-rest.result.now ≡ shared_with c.args.right.now.classes c.args.left.now.classes ++ without c.args.right.now.classes c.args.left.now.classes =
+    ap (λ s. s ++ c.as_slice-rest.result.now) shared ∙ ap (λ r. shared_with c.args.right.now.classes c.args.left.now.classes ++ r) rest in
     subst (All (Contains c.args.right.now.classes)) (sym both) (arranged_held c.args.right.now.classes c.args.left.now.classes)
 
 pub indexed-requires-clause-distinct : goal.indexed-requires-clause-distinct
 indexed-requires-clause-distinct g c =
     let rest : c.as_slice-rest.result.now ≡ without c.args.right.now.classes c.args.left.now.classes =
-    chosen_is false c.args.right.now.classes c.args.left.now.classes _ _ _ _ c.classes-others.ensures.classes c.classes-classes.ensures.classes c.in_ok-rest.ensures c.as_slice-rest.ensures.value in
-    let shared : c.as_slice-shared.result.now ≡ classes_by true c.args.right.now.classes c.args.left.now.classes =
-    chosen_is true c.args.right.now.classes c.args.left.now.classes _ _ _ _ c.classes-others.ensures.classes c.classes-classes.ensures.classes c.in_ok-shared.ensures c.as_slice-shared.ensures.value in
-    let both : c.as_slice-shared.result.now ++ c.as_slice-rest.result.now ≡ classes_by true c.args.right.now.classes c.args.left.now.classes ++ without c.args.right.now.classes c.args.left.now.classes =
-    ap (λ s. s ++ c.as_slice-rest.result.now) shared ∙ ap (λ r. classes_by true c.args.right.now.classes c.args.left.now.classes ++ r) rest in
+    chosen_is without c.args.right.now.classes c.args.left.now.classes _ _ _ _ c.classes-others.ensures.classes c.classes-classes.ensures.classes c.in_ok-rest.ensures c.as_slice-rest.ensures.value in
+    let shared : c.as_slice-shared.result.now ≡ shared_with c.args.right.now.classes c.args.left.now.classes =
+    chosen_is shared_with c.args.right.now.classes c.args.left.now.classes _ _ _ _ c.classes-others.ensures.classes c.classes-classes.ensures.classes c.in_ok-shared.ensures c.as_slice-shared.ensures.value in
+    let both : c.as_slice-shared.result.now ++ c.as_slice-rest.result.now ≡ shared_with c.args.right.now.classes c.args.left.now.classes ++ without c.args.right.now.classes c.args.left.now.classes =
+    ap (λ s. s ++ c.as_slice-rest.result.now) shared ∙ ap (λ r. shared_with c.args.right.now.classes c.args.left.now.classes ++ r) rest in
     subst AreDistinct (sym both) (arranged_distinct c.args.right.now.classes c.args.left.now.classes c.classes-others.ensures.relation.distinct)
 
 pub joined_rows-requires-clause-few : goal.joined_rows-requires-clause-few
 joined_rows-requires-clause-few g c =
     let rest : c.as_slice-rest.result.now ≡ without c.args.right.now.classes c.args.left.now.classes =
-    chosen_is false c.args.right.now.classes c.args.left.now.classes _ _ _ _ c.classes-others.ensures.classes c.classes-classes.ensures.classes c.in_ok-rest.ensures c.as_slice-rest.ensures.value in
-    let shared : c.as_slice-shared.result.now ≡ classes_by true c.args.right.now.classes c.args.left.now.classes =
-    chosen_is true c.args.right.now.classes c.args.left.now.classes _ _ _ _ c.classes-others.ensures.classes c.classes-classes.ensures.classes c.in_ok-shared.ensures c.as_slice-shared.ensures.value in
+    chosen_is without c.args.right.now.classes c.args.left.now.classes _ _ _ _ c.classes-others.ensures.classes c.classes-classes.ensures.classes c.in_ok-rest.ensures c.as_slice-rest.ensures.value in
+    let shared : c.as_slice-shared.result.now ≡ shared_with c.args.right.now.classes c.args.left.now.classes =
+    chosen_is shared_with c.args.right.now.classes c.args.left.now.classes _ _ _ _ c.classes-others.ensures.classes c.classes-classes.ensures.classes c.in_ok-shared.ensures c.as_slice-shared.ensures.value in
     omega (
       arith,
       ap (λ (t : Rows). t.arity) c.table.ensures,
@@ -73,7 +73,7 @@ joined_rows-requires-clause-rows g c =
 pub new-requires-clause-distinct : goal.new-requires-clause-distinct
 new-requires-clause-distinct g c =
     let rest : c.as_slice-rest.result.now ≡ without c.args.right.now.classes c.args.left.now.classes =
-    chosen_is false c.args.right.now.classes c.args.left.now.classes _ _ _ _ c.classes-others.ensures.classes c.classes-classes.ensures.classes c.in_ok-rest.ensures c.as_slice-rest.ensures.value in
+    chosen_is without c.args.right.now.classes c.args.left.now.classes _ _ _ _ c.classes-others.ensures.classes c.classes-classes.ensures.classes c.in_ok-rest.ensures c.as_slice-rest.ensures.value in
     let items : c.in_ok-appended.field-0.items ≡ c.args.left.now.classes ++ without c.args.right.now.classes c.args.left.now.classes =
     c.in_ok-appended.ensures ∙ ap (λ l. l ++ c.as_slice-rest.result.now) c.classes-classes.ensures.classes ∙ ap (λ r. c.args.left.now.classes ++ r) rest in
     subst AreDistinct (sym items) (joined_distinct c.args.right.now.classes c.args.left.now.classes c.classes-others.ensures.relation.distinct c.classes-classes.ensures.relation.distinct)
@@ -81,7 +81,7 @@ new-requires-clause-distinct g c =
 pub new-requires-clause-below : goal.new-requires-clause-below
 new-requires-clause-below g c =
     let rest : c.as_slice-rest.result.now ≡ without c.args.right.now.classes c.args.left.now.classes =
-    chosen_is false c.args.right.now.classes c.args.left.now.classes _ _ _ _ c.classes-others.ensures.classes c.classes-classes.ensures.classes c.in_ok-rest.ensures c.as_slice-rest.ensures.value in
+    chosen_is without c.args.right.now.classes c.args.left.now.classes _ _ _ _ c.classes-others.ensures.classes c.classes-classes.ensures.classes c.in_ok-rest.ensures c.as_slice-rest.ensures.value in
     let items : c.in_ok-appended.field-0.items ≡ c.args.left.now.classes ++ without c.args.right.now.classes c.args.left.now.classes =
     c.in_ok-appended.ensures ∙ ap (λ l. l ++ c.as_slice-rest.result.now) c.classes-classes.ensures.classes ∙ ap (λ r. c.args.left.now.classes ++ r) rest in
     subst (All (λ c. c < 64)) (sym items) (joined_below c.args.right.now.classes c.args.left.now.classes c.classes-others.ensures.relation.below c.classes-classes.ensures.relation.below)
@@ -103,7 +103,7 @@ new-requires-clause-rows g c =
 pub returns-clause-classes : goal.returns-clause-classes
 returns-clause-classes g c =
     let rest : c.as_slice-rest.result.now ≡ without c.args.right.now.classes c.args.left.now.classes =
-    chosen_is false c.args.right.now.classes c.args.left.now.classes _ _ _ _ c.classes-others.ensures.classes c.classes-classes.ensures.classes c.in_ok-rest.ensures c.as_slice-rest.ensures.value in
+    chosen_is without c.args.right.now.classes c.args.left.now.classes _ _ _ _ c.classes-others.ensures.classes c.classes-classes.ensures.classes c.in_ok-rest.ensures c.as_slice-rest.ensures.value in
     let items : c.in_ok-appended.field-0.items ≡ c.args.left.now.classes ++ without c.args.right.now.classes c.args.left.now.classes =
     c.in_ok-appended.ensures ∙ ap (λ l. l ++ c.as_slice-rest.result.now) c.classes-classes.ensures.classes ∙ ap (λ r. c.args.left.now.classes ++ r) rest in
     ap (λ (r : ClassRows). r.classes) c.new.ensures ∙ items

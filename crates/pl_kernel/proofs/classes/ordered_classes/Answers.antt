@@ -1,6 +1,6 @@
 use Rattle.std.proofs.Common.{sym, subst}
 use Rattle.pl_join.specs.Relation.{AreDistinct}
-use Rattle.pl_kernel.proofs.Meeting.{order_more, below_more_relations, all_members, classes_met-distinct}
+use Rattle.pl_kernel.proofs.Meeting.{order_more, below_more_relations, all_members, classes_by_appearance-distinct}
 use Rattle.pl_kernel.proofs.classes.ordered_classes.Goals as goal
 
 pub loop-relation-preserved : goal.loop-relation-preserved
@@ -14,7 +14,7 @@ loop-relation-preserved c = record {
 }
 
 pub returns-clause-distinct : goal.returns-clause-distinct
-returns-clause-distinct c = subst AreDistinct (sym c.loop-relation.invariant.order) (classes_met-distinct _)
+returns-clause-distinct c = subst AreDistinct (sym c.loop-relation.invariant.order) (classes_by_appearance-distinct _)
 
 pub returns-clause-members : goal.returns-clause-members
 returns-clause-members c =

@@ -1,4 +1,4 @@
-use Rattle.pl_join.proofs.Empties.{ascending-none}
+use Rattle.pl_rows.proofs.Canonical.{ascending-none}
 use Rattle.pl_join.proofs.relation.Relation.emptied.Goals as goal
 
 pub from_ascending-table-requires-clause-ascending : goal.from_ascending-table-requires-clause-ascending

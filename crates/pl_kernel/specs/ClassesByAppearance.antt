@@ -13,5 +13,5 @@ unfoldable pub rising : List ℕ → List ℕ
 rising classes = rising_below 64 classes
 
 -- the classes of the relations, each where it is met first
-abbrev pub classes_met : List ClassRows → List ℕ
-classes_met relations = first_appearances (flat_map (λ relation. rising relation.classes) relations)
+abbrev pub classes_by_appearance : List ClassRows → List ℕ
+classes_by_appearance relations = first_appearances (flat_map (λ relation. rising relation.classes) relations)

@@ -4,7 +4,7 @@ use Rattle.std.proofs.lemmas.Iterator.Adapters.{YieldsList-from_rev_slice}
 use Rattle.std.proofs.lemmas.Iterator.Consumers.{YieldsList-turn, YieldsList-end}
 use Rattle.pl_hyper.proofs.Orders.{listed_core, listed_removed, listed_all}
 use Rattle.pl_hyper.proofs.ClassOrders.{IsOrderOf-class_order}
-use Rattle.pl_hyper.proofs.order.classes_met.Goals as goal
+use Rattle.pl_hyper.proofs.order.order_of_classes.Goals as goal
 
 pub loop-edge-preserved : goal.loop-edge-preserved
 loop-edge-preserved c =

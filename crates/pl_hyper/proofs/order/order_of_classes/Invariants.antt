@@ -1,6 +1,6 @@
 use Rattle.std.proofs.Common.{◌++◌, length, map, take, reverse}
 use Rattle.pl_hyper.proofs.Orders.{AreListed}
-use Rattle.pl_hyper.proofs.order.classes_met.Given as goal
+use Rattle.pl_hyper.proofs.order.order_of_classes.Given as goal
 
 abbrev pub invariant-loop-edge : goal.invariant-loop-edge
 invariant-loop-edge l = AreListed l.edges (take l.edge-index l.core) l.order.items l.met
