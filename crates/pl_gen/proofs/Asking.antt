@@ -1,21 +1,24 @@
 -- The tables that a query is asked of have the state's true atoms.
-use Rattle.std.proofs.Common.{◌≡◌, ℕ, ◌<◌, ◌↔◌, zero, suc, Bool, true, false, not, IsTrue, List, [], ◌∷◌, length, Option, Some, None, slice_get, refl, sym, ◌∙◌, ap, subst, arith, Contains}
-use Rattle.pl_rows.specs.Rows.{Rows}
+use Rattle.std.proofs.Common.{◌≡◌, ℕ, ◌<◌, ◌↔◌, zero, suc, Bool, true, false, not, IsTrue, List, [], ◌∷◌, length, Option, Some, None, All, inl, inr, slice_get, refl, sym, ◌∙◌, ap, subst, arith, Contains}
+use Rattle.std.proofs.lemmas.List.Elements.{All-contains}
+use Rattle.pl_rows.specs.Rows.{Rows, AreRows}
+use Rattle.pl_rows.proofs.Canonical.{Contains-nil, Contains-cons_cases}
+use Rattle.pl_normal.proofs.KindLemmas.{typed_within}
 use Rattle.pl_task.specs.declared.data.PredicateDef.{PredicateDef}
 use Rattle.pl_task.specs.declared.data.Schema.{Schema}
 use Rattle.pl_task.specs.declared.task.Task.{Task}
 use Rattle.pl_task.specs.States.{State, initial}
-use Rattle.pl_task.specs.WellFormed.{is_fluent}
+use Rattle.pl_task.specs.WellFormed.{is_fluent, IsAtomOf}
 use Rattle.pl_task.proofs.StateLemmas.{state_of-members}
 use Rattle.pl_normal.specs.declared.form.Source.TheVariants as source
 use Rattle.pl_normal.specs.Guards.{types_at}
-use Rattle.pl_normal.specs.Query.{KeepsStatic, is_in_source}
-use Rattle.pl_normal.specs.Tables.{IsAtomTable, IsTypeTable}
+use Rattle.pl_normal.specs.Query.{KeepsStatic, is_in_source, is_of_kind}
+use Rattle.pl_normal.specs.Tables.{IsAtomTable, IsTypeTable, row_atom}
 use Rattle.pl_state.specs.Layout.{atom_of}
 use Rattle.pl_state.specs.StateOf.{is_fluent_in, is_fluent_one, state_in}
 use Rattle.pl_state.specs.Tables.{IsTableOf, AreTablesOf}
 use Rattle.pl_state.proofs.StatesOfWords.{state_in-other}
-use Rattle.pl_gen.specs.Queries.{IsArityOf}
+use Rattle.pl_gen.specs.Queries.{IsArityOf, HasObjectRows}
 
 pub definition : (ds : List PredicateDef) (p : ℕ) → p < length ds → (d : PredicateDef) × (slice_get ds p ≡ Some d)
 definition [] p h = absurd (omega arith)
@@ -46,6 +49,7 @@ keeps_static task words a h = state_in-other task words a (not_fluent task a.pre
 pub record IsTrueTable (task : Task) (words : List ℕ) (p : ℕ) (table : Rows) : Type 0 where
   pub arity : (d : PredicateDef) → slice_get task.predicates p ≡ Some d → table.arity ≡ d.arity
   pub rows : (row : List ℕ) → Contains table.rows row ↔ IsTrue (state_in task words (atom_of p row))
+  pub objects : HasObjectRows (length task.objects) table
 
 -- a fluent predicate
 pub fluent_table : (task : Task) (words : List ℕ) (tables : List (Option Rows)) (p : ℕ) (table : Rows) → AreTablesOf task (state_in task words) tables → p < length task.predicates →
@@ -60,6 +64,10 @@ fluent_table task words tables p table are low at = of_one (definition task.pred
         subst (IsTrueTable task words p) (same_table other here) (record {
           arity = λ e same. is.wide ∙ ap (λ (x : PredicateDef). x.arity) (same_some d e (sym found ∙ same));
           rows = is.true_rows.members;
+          objects = record {
+            rows = subst (λ n. AreRows n other.rows) (sym is.wide) is.true_rows.table;
+            within = λ row x c m. All-contains (λ o. o < length task.objects) row x (All-contains (λ (r : List ℕ). All (λ o. o < length task.objects) r) other.rows row is.true_rows.within c) m;
+          };
         })
 
     by : (d : PredicateDef) (b : Bool) → slice_get task.predicates p ≡ Some d → d.is_static ≡ b → IsTrueTable task words p table
@@ -77,6 +85,10 @@ static_table task words p table static is = record {
     λ h. subst IsTrue (sym (other row)) ((state_of-members task.init (atom_of p row)).1 ((is.atoms row).0 h)),
     λ h. (is.atoms row).1 ((state_of-members task.init (atom_of p row)).0 (subst IsTrue (other row) h)),
   );
+  objects = record {
+    rows = is.rows;
+    within = λ row x c m. All-contains (λ o. o < length task.objects) row x (All-contains (IsAtomOf task.objects task.predicates) task.init (row_atom p row) task.init_ok.each ((is.atoms row).0 c)).within m;
+  };
 }
   where
     other : (row : List ℕ) → state_in task words (atom_of p row) ≡ initial task (atom_of p row)
@@ -120,3 +132,17 @@ values_wide task p n m low ours theirs = of_one (definition task.predicates p lo
   where
     of_one : (d : PredicateDef) × (slice_get task.predicates p ≡ Some d) → n ≡ m
     of_one (d, found) = ours d found ∙ sym (theirs d found)
+
+kind_within : (task : Task) (types row : List ℕ) (x : ℕ) → is_of_kind task types row ≡ true → Contains row x → x < length task.objects
+kind_within task types [] x h m = absurd (Contains-nil x m)
+kind_within task types (o ∷ []) x h m = elim (Contains-cons_cases o [] x m) [
+  | inl e ↦ subst (λ y. y < length task.objects) e (typed_within task types o h)
+  | inr r ↦ absurd (Contains-nil x r)
+]
+kind_within task types (o ∷ (other ∷ rest)) x h m = absurd (cc)
+
+pub kind_objects : (task : Task) (types : List ℕ) (table : Rows) → IsTypeTable task types table → HasObjectRows (length task.objects) table
+kind_objects task types table is = record {
+  rows = subst (λ n. AreRows n table.rows) (sym is.arity) is.rows;
+  within = λ row x c m. kind_within task types row x ((is.objects row).0 c) m;
+}

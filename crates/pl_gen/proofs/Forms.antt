@@ -38,7 +38,7 @@ use Rattle.pl_normal.specs.Scope.{IsSlotOf}
 use Rattle.pl_normal.proofs.SlotLemmas.{parameter_slots-length}
 use Rattle.pl_normal.proofs.Forming.{slots_below, slots_within}
 use Rattle.pl_normal.proofs.Ordered.{set_bits}
-use Rattle.pl_normal.proofs.Sets.{and_within}
+use Rattle.pl_hyper.proofs.Bits.{and_within}
 use Rattle.pl_gen.specs.Queries.{IsEdgeOf, IsSieveOf, IsSieveOver, IsGuardOf}
 
 abbrev pub SchemaOf : Task → Schema → Type 0

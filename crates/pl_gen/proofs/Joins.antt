@@ -18,7 +18,7 @@ use Rattle.pl_hyper.specs.ClassOrder.{classes_of, class_order, first_appearances
 use Rattle.pl_join.specs.declared.slot.Slot.TheVariants.{Class}
 use Rattle.pl_join.specs.Relation.{Assignment, ClassRows, Holds, HoldsAll, IsJoinOfAll, IsSlotBelow}
 use Rattle.pl_join.proofs.Members.{Contains-from_map}
-use Rattle.pl_kernel.specs.ClassesMet.{classes_met}
+use Rattle.pl_kernel.specs.ClassesByAppearance.{classes_by_appearance}
 use Rattle.pl_reduce.specs.Nodes.{ReducedJoin}
 use Rattle.pl_reduce.specs.Plan.{relation_at, AreOverPlan, AreColumns}
 use Rattle.pl_reduce.specs.Reduced.{IsReductionOf}
@@ -171,8 +171,8 @@ over_edge task schema s edges e c relation is same low at = (
 
 -- the root and the rest are as the reducer wants them
 pub over_plan : (task : Task) (schema : Schema) (s : State) (plan : Removal) (core rest : List ClassRows) (root : ClassRows) → SchemaOf task schema → IsWalkable plan → plan.edges ≡ sets_of (edges_of schema) → 0 < length (edges_of schema) →
-    AreRelationsAt task schema s plan.core core → AreRelationsAt task schema s (map (λ (ear : Ear). ear.edge) plan.removed) rest → root.classes ≡ classes_met core →
-    (((i c : ℕ) (d : ClassRows) → i < length plan.core → Contains (slice_index_or core i d).classes c ↔ ((c < 64) × HoldsClass plan.edges (slice_index plan.core i) c)) → classes_met core ≡ first_appearances (flat_map (λ e. classes_of (slice_index plan.edges e)) plan.core)) →
+    AreRelationsAt task schema s plan.core core → AreRelationsAt task schema s (map (λ (ear : Ear). ear.edge) plan.removed) rest → root.classes ≡ classes_by_appearance core →
+    (((i c : ℕ) (d : ClassRows) → i < length plan.core → Contains (slice_index_or core i d).classes c ↔ ((c < 64) × HoldsClass plan.edges (slice_index plan.core i) c)) → classes_by_appearance core ≡ first_appearances (flat_map (λ e. classes_of (slice_index plan.edges e)) plan.core)) →
     AreOverPlan plan root rest
 over_plan task schema s plan core rest root is walkable edges some core_is rest_is classes law = record {
   core = walkable.core_is_filled (subst (λ n. 0 < n) (sym long) some);

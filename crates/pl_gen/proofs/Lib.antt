@@ -15,3 +15,12 @@ mod Relating
 mod Turning
 -- the steps of a walk one by one
 mod Stepping
+-- how many probes a walk takes
+mod Counting
+mod Reading
+mod Giving
+-- how many probes the preparation of a state takes
+mod Few
+mod Preparing
+mod Tables
+mod Sizes

@@ -59,7 +59,7 @@ pub edge_given : (task : Task) (schema : Schema) (edges given : List Edge) (e : 
 edge_given task schema edges given e edge is same read low at =
     subst (IsEdgeOf task schema) (sym (at ∙ ap (λ xs. get_or xs e edge) read)) (edges_are task schema edges is same e edge low)
 
-edge_here : (edges given : List Edge) (e : ℕ) (edge : Edge) → given ≡ edges → e < length edges → edge ≡ get_or given e edge → edge ≡ edge_at edges e
+pub edge_here : (edges given : List Edge) (e : ℕ) (edge : Edge) → given ≡ edges → e < length edges → edge ≡ get_or given e edge → edge ≡ edge_at edges e
 edge_here edges given e edge read low at = at ∙ (ap (λ xs. get_or xs e edge) read ∙ get_or_default edges e edge no_edge low)
 
 pub same_arity : (task : Task) (schema : Schema) (x : Source) (n m : ℕ) → IsSourceOf task schema x → IsArityOf task x n → IsArityOf task x m → n ≡ m

@@ -113,7 +113,7 @@ assigned_row classes row once long =
         ∙ ap (slice_index row) (one_place classes place i once low h back)
 
 -- the assignment of another's row agrees with it
-assigned_agrees : (classes : List ℕ) (f : Assignment) → AllPairs (λ a b. a ≢ b) classes →
+pub assigned_agrees : (classes : List ℕ) (f : Assignment) → AllPairs (λ a b. a ≢ b) classes →
     Agree classes (assigned classes (map f classes)) f
 assigned_agrees classes f once =
     agree_map classes (assigned classes (map f classes)) f
@@ -232,7 +232,7 @@ rows_are_steps task number schema s rows found keeps are =
 -- ---- late filters
 
 -- the filters of a schema, local and late
-abbrev filters_of : Schema → List Sieve
+abbrev pub filters_of : Schema → List Sieve
 filters_of schema = sieves_of (parameter_slots schema) schema.condition
 
 abbrev term_slot : Schema → Term → Slot
@@ -287,7 +287,7 @@ term_agrees : (schema : Schema) (f g : Assignment) (t : Term) → args_under sch
 term_agrees schema f g t same =
     sym (term_value schema f t) ∙ (ap (λ args. value_of args t) same ∙ term_value schema g t)
 
-terms_agree : (schema : Schema) (f g : Assignment) (terms : List Term) →
+pub terms_agree : (schema : Schema) (f g : Assignment) (terms : List Term) →
     args_under schema f ≡ args_under schema g →
     values_of f (term_slots schema terms) ≡ values_of g (term_slots schema terms)
 terms_agree schema f g terms same =

@@ -370,7 +370,7 @@ none_here p number high =
     over_steps p number ∙ sym (none_behind p.task (state_of_prepared p) number (past_last p.task.schemas number high))
 
 -- what holds of the entry of a schema holds where the number is in range
-with_entry : (P : Type 0) (p : PreparedState) (task : Task) (words : List ℕ) (tables : List (Option Rows)) (entries : List Entry) (number : ℕ) (e : Entry) → record { task = task; words = words } ≡ p → IsPrepared task words tables entries → number < length p.task.schemas →
+pub with_entry : (P : Type 0) (p : PreparedState) (task : Task) (words : List ℕ) (tables : List (Option Rows)) (entries : List Entry) (number : ℕ) (e : Entry) → record { task = task; words = words } ≡ p → IsPrepared task words tables entries → number < length p.task.schemas →
     e ≡ get_or entries number e → ((s : Schema) → slice_get p.task.schemas number ≡ Some s → number < length p.task.schemas → IsEntry p.task s (state_of_prepared p) e → P) → P
 with_entry P p task words tables entries number e is prepared low at use_it = of_one (schema_here p.task.schemas number low)
   where

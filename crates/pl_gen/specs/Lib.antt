@@ -9,5 +9,7 @@ pub use Rattle.pl_state.specs.StateOf
 -- what the functions inside the crate promise each other
 pub mod Queries
 pub mod Kept
+pub mod Measures
+pub mod Reads
 pub mod Turns
 pub mod Lending

@@ -1,8 +1,9 @@
 -- The query of a schema in a state, and what the functions that answer it promise each other.
-use Rattle.std.specs.Prelude.{◌≡◌, ◌↔◌, ◌<◌, ◌==◌, ◌&&◌, ◌||◌, ℕ, Bool, not, IsTrue, List, [], length, All, Contains, Some, slice_get, slice_index}
+use Rattle.std.specs.Prelude.{◌≡◌, ◌↔◌, ◌<◌, ◌+◌, ◌*◌, ◌==◌, ◌&&◌, ◌||◌, ℕ, Bool, not, IsTrue, List, [], length, All, Contains, Some, slice_get, slice_index}
 use Rattle.std.specs.Int.{bit_at}
 use Rattle.std.specs.List.{list_all}
 use Rattle.std.proofs.Common.{get_or}
+use Rattle.pl_rows.specs.Rows.{Rows, AreRows}
 use Rattle.pl_task.specs.declared.data.Atom.{Atom}
 use Rattle.pl_task.specs.declared.data.PredicateDef.{PredicateDef}
 use Rattle.pl_task.specs.declared.data.Schema.{Schema}
@@ -16,6 +17,7 @@ use Rattle.pl_reduce.specs.Plan.{relation_at}
 use Rattle.pl_normal.specs.declared.form.Edge.{Edge}
 use Rattle.pl_normal.specs.declared.form.Guard.{Guard}
 use Rattle.pl_normal.specs.declared.form.Guard.TheVariants as guard
+use Rattle.pl_normal.specs.declared.form.NormalSchema.{NormalSchema}
 use Rattle.pl_normal.specs.declared.form.Placed.{Placed}
 use Rattle.pl_normal.specs.declared.form.Sieve.{Sieve}
 use Rattle.pl_normal.specs.declared.form.Sieve.TheVariants as sieve
@@ -23,6 +25,7 @@ use Rattle.pl_normal.specs.declared.form.Source.{Source}
 use Rattle.pl_normal.specs.declared.form.Source.TheVariants as source
 use Rattle.pl_normal.specs.Edges.{edges_of}
 use Rattle.pl_normal.specs.Filters.{local_of}
+use Rattle.pl_normal.specs.Measures.{edge_rows}
 use Rattle.pl_normal.specs.Query.{meets_edge, meets_sieve}
 use Rattle.pl_state.specs.StateOf.{state_in, IsStateOf}
 use Rattle.pl_state.specs.Tables.{AreTablesOf}
@@ -54,6 +57,11 @@ pub record IsArityOf (task : Task) (from : Source) (arity : ℕ) : Type 0 where
   pub kind : (p : ℕ) → from ≡ source.Kind p → arity ≡ 1
   pub predicate : (p : ℕ) (d : PredicateDef) → from ≡ source.Predicate p → slice_get task.predicates p ≡ Some d → arity ≡ d.arity
 
+-- the rows of a table are ascending, and are of objects of the task
+pub record HasObjectRows (objects : ℕ) (table : Rows) : Type 0 where
+  pub rows : AreRows table.arity table.rows
+  pub within : (row : List ℕ) (x : ℕ) → Contains table.rows row → Contains row x → x < objects
+
 -- a source of the task, as many slots as its rows have values, and the classes of the slots as a set
 pub record IsEdgeOf (task : Task) (schema : Schema) (edge : Edge) : Type 0 where
   pub from : IsSourceOf task schema edge.source
@@ -82,6 +90,14 @@ pub record IsGuardOf (task : Task) (g : Guard) : Type 0 where
 
 abbrev pub edge_at : List Edge → ℕ → Edge
 edge_at edges e = get_or edges e (record { source = source.Kind 0; slots = []; classes = 0 })
+
+-- the rows of the relation of the edge with a number
+abbrev pub source_rows : Query → ℕ → ℕ
+source_rows query e = edge_rows (task_in query) (schema_in query) (state_asked query) (edge_at (edges_of (schema_in query)) e)
+
+-- what the relations of edges may take whose sources have so many rows: a probe for each row, and two for each with each local filter
+abbrev pub sieved_probes : NormalSchema → ℕ → ℕ
+sieved_probes form rows = rows + length form.local * (2 * rows)
 
 -- whether a filter lets the assignment pass, if it is local to the edge with this number
 abbrev pub lets_pass : State → Assignment → ℕ → Placed → Bool

@@ -1,5 +1,6 @@
 -- What the functions that give the steps of one schema promise each other.
-use Rattle.std.specs.Prelude.{◌≡◌, ◌∷◌, ℕ, ◌≤◌, length, Bool, true, false, List, [], filter, take, slice_index, slice_index_or, Option, Some, None, MatchOption}
+use Rattle.std.specs.Prelude.{◌≡◌, ◌∷◌, ℕ, ◌≤◌, length, Bool, true, false, List, [], filter, take, slice_index, slice_index_or, Option, Some, None, MatchOption, slice_get}
+use Rattle.pl_task.specs.declared.data.Schema.{Schema}
 use Rattle.pl_task.specs.declared.task.Task.{Task}
 use Rattle.pl_task.specs.Instance.{Instance}
 use Rattle.pl_join.specs.Relation.{Agree}
@@ -11,6 +12,7 @@ use Rattle.pl_gen.specs.declared.turn.Turn.{Turn}
 use Rattle.pl_gen.specs.declared.place.Place.{Place}
 use Rattle.pl_gen.specs.Kept.{left_of, turn_steps, turn_steps_of, IsTurnOf}
 use Rattle.pl_gen.specs.Queries.{state_asked}
+use Rattle.pl_gen.specs.Reads.{TakesOfLocal}
 use Rattle.pl_gen.specs.SchemaSteps.{passes_late}
 use Rattle.pl_gen.specs.Walks.{PreparedState, WalkView, IsTurn, Gives}
 
@@ -48,6 +50,11 @@ left_at p place = left_of p place.number place.turn
 abbrev pub WalksOn : PreparedState → Place → Place → Bool → Type 0
 WalksOn p old new false = (left_at p old ≡ []) × ((left_at p new ≡ []) × (step_of_place new ≡ step_of_place old))
 WalksOn p old new true = left_at p old ≡ step_of_place new ∷ left_at p new
+
+-- what a walk takes where it passes no late filter: two probes for each unfixed class of the schema that gives the step, and else none
+abbrev pub WalksOnLocal : Task → ℕ → ℕ → ℕ → Bool → Type 0
+WalksOnLocal task old new number false = new ≡ old
+WalksOnLocal task old new number true = (schema : Schema) → slice_get task.schemas number ≡ Some schema → TakesOfLocal schema old new true
 
 -- the turn is that of a schema of the task, or over, and a step has at most 64 objects
 pub record IsPlace (task : Task) (place : Place) : Type 0 where

@@ -1,6 +1,6 @@
 //! Whether the guards of a schema hold in a state.
 
-ghost use Rattle.std.specs.Prelude.{◌≡◌, ◌≤◌, All};
+ghost use Rattle.std.specs.Prelude.{◌≡◌, ◌≤◌, ◌+◌, length, All};
 ghost use Rattle.std.specs.List.{list_all};
 ghost use Rattle.pl_task.specs.WellFormed.{IsAtomOf};
 ghost use Rattle.pl_normal.specs.Query.{meets_guard};
@@ -12,11 +12,12 @@ use pl_steps::Steps;
 use pl_task::Atom;
 use std::sync::ledger::Ledger;
 
-/// Whether all guards hold. The first false one ends the search.
+/// Whether all guards hold. The first false one ends the search. It takes at most one probe for each guard.
 pub fn guards_hold<L: Ledger>(query: &Query<'_>, guards: &[Guard], steps: &mut Steps<L>) -> bool
     requires query { IsQuery query.now }
     requires guards { All (IsGuardOf query.now.normal.now) guards.now }
     ensures holds { result ≡ list_all (meets_guard (state_asked query.now)) guards.now }
+    ensures cost { steps.new ≤ steps.old + length guards.now }
     ensures rise { steps.old ≤ steps.new }
 {
     for guard in guards {
@@ -32,6 +33,7 @@ fn guard_holds<L: Ledger>(query: &Query<'_>, guard: &Guard, steps: &mut Steps<L>
     requires query { IsQuery query.now }
     requires guard { IsGuardOf query.now.normal.now guard.now }
     ensures holds { result ≡ meets_guard (state_asked query.now) guard.now }
+    ensures cost { steps.new ≤ steps.old + 1 }
     ensures rise { steps.old ≤ steps.new }
 {
     match guard {
@@ -46,6 +48,7 @@ fn is_true<L: Ledger>(query: &Query<'_>, atom: &Atom, steps: &mut Steps<L>) -> b
     requires query { IsQuery query.now }
     requires atom { IsAtomOf query.now.normal.now.objects query.now.normal.now.predicates atom.now }
     ensures holds { result ≡ state_asked query.now atom.now }
+    ensures cost { steps.new ≤ steps.old + 1 }
     ensures rise { steps.old ≤ steps.new }
 {
     let table = predicate_table(query, atom.predicate);

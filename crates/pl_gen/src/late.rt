@@ -1,6 +1,6 @@
 //! The late filters of a schema, tested on the values of its classes.
 
-ghost use Rattle.std.specs.Prelude.{◌≡◌, ◌≤◌, ◌++◌, ℕ, length, map, take, drop, slice_index, All};
+ghost use Rattle.std.specs.Prelude.{◌≡◌, ◌≤◌, ◌+◌, ◌++◌, ℕ, length, map, take, drop, slice_index, All};
 ghost use Rattle.std.specs.List.{list_all};
 ghost use Rattle.pl_join.specs.Relation.{slot_value, IsSlotBelow};
 ghost use Rattle.pl_normal.specs.Query.{meets_sieve, values_of};
@@ -15,7 +15,8 @@ use std::sync::ledger::Ledger;
 /// The most slots that an atom has.
 const MOST_SLOTS: usize = 64;
 
-/// Whether all filters let the values pass; `values` has one for each class, by the class's number.
+/// Whether all filters let the values pass; `values` has one for each class, by the class's number. It takes at most one
+/// probe for each filter.
 pub fn passes_all<L: Ledger>(
     query: &Query<'_>,
     sieves: &[Sieve],
@@ -26,6 +27,7 @@ pub fn passes_all<L: Ledger>(
     requires sieves { All (IsSieveOf query.now.normal.now) sieves.now }
     requires values { length values.now ≡ 64 }
     ensures passes { result ≡ list_all (meets_sieve (state_asked query.now) (slice_index values.now)) sieves.now }
+    ensures cost { steps.new ≤ steps.old + length sieves.now }
     ensures rise { steps.old ≤ steps.new }
 {
     for sieve in sieves {
@@ -36,12 +38,13 @@ pub fn passes_all<L: Ledger>(
     true
 }
 
-/// Whether a filter lets the values pass.
+/// Whether a filter lets the values pass. It takes at most one probe.
 fn passes<L: Ledger>(query: &Query<'_>, sieve: &Sieve, values: &[u32], steps: &mut Steps<L>) -> bool
     requires query { IsQuery query.now }
     requires sieve { IsSieveOf query.now.normal.now sieve.now }
     requires values { length values.now ≡ 64 }
     ensures passes { result ≡ meets_sieve (state_asked query.now) (slice_index values.now) sieve.now }
+    ensures cost { steps.new ≤ steps.old + 1 }
     ensures rise { steps.old ≤ steps.new }
 {
     match sieve {

@@ -1,11 +1,17 @@
 //! Where a walk stands.
 
-ghost use Rattle.std.specs.Prelude.{◌≡◌, ◌≤◌, ◌<◌, length, take, slice_index, All};
+ghost use Rattle.std.specs.Prelude.{◌≡◌, ◌≤◌, ◌<◌, ◌+◌, ◌*◌, [], Some, length, take, drop, slice_get, slice_index, All};
+ghost use Rattle.std.specs.Bool.{OnTrue, OnFalse};
+ghost use Rattle.pl_normal.specs.Filters.{late_of};
 ghost use Rattle.pl_normal.specs.NormalForm.{IsNormalForm};
 ghost use Rattle.pl_normal.specs.Query.{args_under};
 ghost use Rattle.pl_task.specs.declared.data.Schema.{Schema as SchemaOf};
 ghost use Rattle.pl_task.specs.declared.task.Task.{Task as TaskOf};
-ghost use Rattle.pl_gen.specs.Turns.{IsPlace, WalksOn, TakesStep};
+ghost use Rattle.pl_gen.specs.Kept.{turn_steps, IsTurnOf};
+ghost use Rattle.pl_gen.specs.Reads.{reads_at, reads_of, TakesOfLocal};
+ghost use Rattle.pl_gen.specs.SchemaSteps.{applicable_of};
+ghost use Rattle.pl_gen.specs.Turns.{IsPlace, WalksOn, WalksOnLocal, TakesStep};
+ghost use Rattle.pl_gen.specs.Walks.{AreLocal, reads_in, state_of_prepared};
 
 use crate::prepared::Prepared;
 use crate::turn::{Turn, next_values};
@@ -57,6 +63,12 @@ pub fn walk_on<'p, L: Ledger>(
     requires place { IsPlace prepared.now.task place.old }
     ensures on { WalksOn prepared.now place.old place.new result }
     ensures place { IsPlace prepared.now.task place.new }
+    ensures given { OnTrue result (place.new.number ≡ place.new.schema) }
+    ensures within { OnTrue result (place.new.number < length prepared.now.task.schemas) }
+    ensures behind { OnFalse result (place.new.number ≡ length prepared.now.task.schemas) }
+    ensures cost { steps.new + reads_at prepared.now place.new ≤ steps.old + reads_at prepared.now place.old }
+    ensures local { AreLocal prepared.now.task place.old.number place.new.number
+        → WalksOnLocal prepared.now.task steps.old steps.new place.new.number result }
     ensures rise { steps.old ≤ steps.new }
 {
     let count = prepared.count();
@@ -65,9 +77,23 @@ pub fn walk_on<'p, L: Ledger>(
             return true;
         }
         place.number += 1;
-        place.turn = prepared.turn(place.number);
+        let number = place.number;
+        begin_turn(prepared, &mut place.turn, number);
     }
     false
+}
+
+/// Makes the turn that of the schema with the number, before its first step. It is a function of its own, so that a step
+/// within a turn makes no room for another one.
+#[inline(never)]
+fn begin_turn<'p>(prepared: &'p Prepared<'p, 'p>, turn: &mut Turn<'p>, number: u32)
+    ensures steps { turn_steps prepared.now number turn.new
+        ≡ applicable_of prepared.now.task (state_of_prepared prepared.now) number }
+    ensures turn { IsTurnOf prepared.now.task number turn.new }
+    ensures reads { reads_of prepared.now number turn.new ≤
+        reads_in prepared.now.task (state_of_prepared prepared.now) (drop number prepared.now.task.schemas) }
+{
+    *turn = prepared.turn(number);
 }
 
 /// Goes on to the next step of the turn, if there is one.
@@ -80,6 +106,10 @@ fn take_step<L: Ledger>(
     requires number { place.old.number < length prepared.now.task.schemas }
     ensures takes { TakesStep prepared.now place.old place.new result }
     ensures place { IsPlace prepared.now.task place.new }
+    ensures given { OnTrue result (place.new.number ≡ place.new.schema) }
+    ensures cost { steps.new + reads_at prepared.now place.new ≤ steps.old + reads_at prepared.now place.old }
+    ensures local { (schema : SchemaOf) → slice_get prepared.now.task.schemas place.old.number ≡ Some schema
+        → late_of schema ≡ [] → TakesOfLocal schema steps.old steps.new result }
     ensures rise { steps.old ≤ steps.new }
 {
     let number = place.number;

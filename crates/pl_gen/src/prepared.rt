@@ -1,14 +1,19 @@
 //! A state with what its applicable steps are read from.
 
-ghost use Rattle.std.specs.Prelude.{◌≡◌, ◌≤◌, ◌<◌, ◌++◌, ℕ, List, None, Some, length, map, drop, filter, slice_get, slice_index, All, IfOk, true};
+ghost use Rattle.std.specs.Prelude.{◌≡◌, ◌≤◌, ◌<◌, ◌+◌, ◌*◌, ◌++◌, ℕ, List, None, Some, length, map, drop, filter, slice_get, slice_index, All, IfOk, true};
 ghost use Rattle.pl_task.specs.declared.data.Schema.{Schema as SchemaOf};
 ghost use Rattle.pl_task.specs.States.{IsStep};
 ghost use Rattle.pl_cursor.specs.Cursor.{AreAnswersPast};
 ghost use Rattle.pl_state.specs.StateOf.{IsStateOf, state_in};
 ghost use Rattle.pl_state.specs.Tables.{AreTablesOf};
 ghost use Rattle.pl_normal.specs.NormalForm.{IsNormalForm};
+ghost use Rattle.std.specs.List.{sum_by};
+ghost use Rattle.pl_normal.specs.Measures.{probe_bound};
+ghost use Rattle.pl_normal.specs.ParameterOrder.{classes_in_order};
 ghost use Rattle.pl_normal.specs.Query.{step_under};
-ghost use Rattle.pl_gen.specs.Walks.{steps_in, steps_above, is_above, state_of_prepared, step_with};
+ghost use Rattle.pl_gen.specs.Walks.{steps_in, steps_above, is_above, state_of_prepared, step_with, reads_in, walk_reads, AreAcyclic};
+ghost use Rattle.pl_gen.specs.Measures.{entry_probes};
+ghost use Rattle.pl_gen.specs.Reads.{reads_of};
 ghost use Rattle.pl_gen.specs.Queries.{IsQuery};
 ghost use Rattle.pl_gen.specs.Views.{IsViewOf};
 ghost use Rattle.pl_gen.specs.Entries.{AreEntriesUpTo};
@@ -56,6 +61,8 @@ impl<'n, 't> Model for Prepared<'n, 't> {
 
 impl<'n, 't> Prepared<'n, 't> {
     /// Prepares a state of the task. The only error is want of memory. After it no part of an enumeration takes memory.
+    ///
+    /// Where all schemas are acyclic, what it takes and what a walk may take are together at most the bound of the state.
     pub fn prepare<L: Ledger>(
         alloc: Global,
         normal: &'n NormalTask<'t>,
@@ -64,6 +71,10 @@ impl<'n, 't> Prepared<'n, 't> {
     ) -> Result<Prepared<'n, 't>, AllocError>
         requires { IsStateOf normal.now state.now }
         ensures prepared { IfOk result (λ p. p ≡ record { task = normal.now; words = state.now }) }
+        ensures tables { IfOk result (λ _. AreAcyclic normal.now →
+            steps.new ≤ steps.old + sum_by (entry_probes normal.now (state_in normal.now state.now)) normal.now.schemas) }
+        ensures cost { IfOk result (λ p. AreAcyclic normal.now →
+            steps.new + walk_reads p ≤ steps.old + probe_bound normal.now (state_in normal.now state.now)) }
         ensures rise { steps.old ≤ steps.new }
     {
         let tables = tables(alloc, normal.task(), state)?;
@@ -82,16 +93,25 @@ impl<'n, 't> Prepared<'n, 't> {
         ensures prepared { result.prepared ≡ self.now }
         ensures left { result.left ≡ steps_in self.now }
         ensures last { result.last ≡ None }
+        ensures number { result.number ≡ 0 }
+        ensures reads { result.reads ≤ walk_reads self.now }
     {
         Walk::at(self, Place::before(0, self.turn(0)))
     }
 
     /// Before the first applicable step above `past`, which is any step of the task, applicable or not.
+    ///
+    /// It takes at most three probes for each unfixed class of the schema of `past`, however many steps lie before. They are
+    /// counted in what a walk may take.
     pub fn resume<L: Ledger>(&self, past: StepRef<'_>, steps: &mut Steps<L>) -> Walk<'_>
         requires { IsStep self.now.task (record { schema = past.schema; args = past.args.now }) }
         ensures prepared { result.prepared ≡ self.now }
         ensures left { result.left ≡ steps_above self.now (record { schema = past.entry.schema; args = past.entry.args.now }) }
         ensures last { result.last ≡ None }
+        ensures number { result.number ≡ past.entry.schema }
+        ensures sought { (s : SchemaOf) → slice_get self.now.task.schemas past.entry.schema ≡ Some s →
+            steps.new ≤ steps.old + 3 * length (classes_in_order s) }
+        ensures cost { steps.new + result.reads ≤ steps.old + walk_reads self.now }
         ensures rise { steps.old ≤ steps.new }
     {
         Walk::at(
@@ -146,10 +166,12 @@ impl<'n, 't> Prepared<'n, 't> {
         normal.schema(number)
     }
 
-    /// The turn of a schema, before its first step. Behind the last schema no step is left.
+    /// The turn of a schema, before its first step. Behind the last schema no step is left. It takes no probe.
     pub(crate) fn turn(&self, number: u32) -> Turn<'_>
         ensures steps { turn_steps self.now number result ≡ applicable_of self.now.task (state_of_prepared self.now) number }
         ensures turn { IsTurnOf self.now.task number result }
+        ensures reads { reads_of self.now number result ≤
+            reads_in self.now.task (state_of_prepared self.now) (drop number self.now.task.schemas) }
     {
         if self.count() <= number {
             return Turn::Over;
@@ -168,6 +190,10 @@ impl<'n, 't> Prepared<'n, 't> {
             ≡ filter (is_above self.now.task (step_with past.entry.schema past.entry.args.now))
             (applicable_of self.now.task (state_of_prepared self.now) past.entry.schema) }
         ensures turn { IsTurnOf self.now.task past.entry.schema result }
+        ensures sought { (s : SchemaOf) → slice_get self.now.task.schemas past.entry.schema ≡ Some s →
+            steps.new ≤ steps.old + 3 * length (classes_in_order s) }
+        ensures cost { steps.new + reads_of self.now past.entry.schema result ≤
+            steps.old + reads_in self.now.task (state_of_prepared self.now) (drop past.entry.schema self.now.task.schemas) }
         ensures rise { steps.old ≤ steps.new }
     {
         match &self.entries[past.schema as usize] {
@@ -238,6 +264,8 @@ fn entries_of<L: Ledger>(
     requires state { IsStateOf normal.now words.now }
     requires tables { AreTablesOf normal.now (state_in normal.now words.now) tables.now }
     ensures entries { IfOk result (λ v. AreEntriesUpTo normal.now (state_in normal.now words.now) (length normal.now.schemas) v.items) }
+    ensures cost { IfOk result (λ _. AreAcyclic normal.now → steps.new
+        ≤ steps.old + sum_by (entry_probes normal.now (state_in normal.now words.now)) normal.now.schemas) }
     ensures rise { steps.old ≤ steps.new }
 {
     let schemas = normal.task().schemas.as_slice();

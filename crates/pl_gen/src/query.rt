@@ -4,7 +4,7 @@ ghost use Rattle.std.specs.Prelude.{◌≡◌, ◌↔◌, ◌<◌, ℕ, List, So
 ghost use Rattle.pl_task.specs.declared.data.PredicateDef.{PredicateDef as PredicateOf};
 ghost use Rattle.pl_normal.specs.Query.{is_in_source};
 ghost use Rattle.pl_state.specs.Layout.{atom_of};
-ghost use Rattle.pl_gen.specs.Queries.{IsQuery, IsSourceOf, IsArityOf, state_asked};
+ghost use Rattle.pl_gen.specs.Queries.{IsQuery, IsSourceOf, IsArityOf, HasObjectRows, state_asked};
 
 use pl_normal::{NormalTask, Source};
 use pl_rows::Table;
@@ -33,6 +33,7 @@ pub fn source_table<'a>(query: &Query<'a>, source: Source) -> &'a Table
     ensures arity { IsArityOf query.now.normal.now source result.now.arity }
     ensures rows { (row : List ℕ) → Contains result.now.rows row
         ↔ IsTrue (is_in_source query.now.normal.now query.now.schema.now (state_asked query.now) source row) }
+    ensures objects { HasObjectRows (length query.now.normal.now.objects) result.now }
 {
     match source {
         Source::Kind(parameter) => query.normal.type_table(query.number, parameter),
@@ -46,6 +47,7 @@ pub fn predicate_table<'a>(query: &Query<'a>, predicate: u32) -> &'a Table
     requires predicate { predicate < length query.now.normal.now.predicates }
     ensures arity { (d : PredicateOf) → slice_get query.now.normal.now.predicates predicate ≡ Some d → result.now.arity ≡ d.arity }
     ensures rows { (row : List ℕ) → Contains result.now.rows row ↔ IsTrue (state_asked query.now (atom_of predicate row)) }
+    ensures objects { HasObjectRows (length query.now.normal.now.objects) result.now }
 {
     match query.tables.of(predicate) {
         Some(table) => table,

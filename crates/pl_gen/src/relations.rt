@@ -1,10 +1,12 @@
 //! The relations of the edges of a schema's query in a state.
 
-ghost use Rattle.std.specs.Prelude.{◌≡◌, ◌≤◌, ◌<◌, ◌↔◌, ℕ, All, length, map, IfOk, IsTrue};
-ghost use Rattle.pl_join.specs.Relation.{Assignment, Holds};
+ghost use Rattle.std.specs.Prelude.{◌≡◌, ◌≤◌, ◌<◌, ◌+◌, ◌*◌, ◌↔◌, ℕ, All, length, map, IfOk, IsTrue};
+ghost use Rattle.pl_join.specs.Relation.{Assignment, Holds, IsRelation};
+ghost use Rattle.std.specs.List.{sum_by};
+ghost use Rattle.pl_reduce.specs.Passes.{total_rows};
 ghost use Rattle.pl_normal.specs.NormalForm.{IsNormalForm};
 ghost use Rattle.pl_normal.specs.Query.{meets_sieve};
-ghost use Rattle.pl_gen.specs.Queries.{IsQuery, IsRelationAt, AreRelationsAt, IsSieveOf, IsSieveOver, state_asked};
+ghost use Rattle.pl_gen.specs.Queries.{IsQuery, IsRelationAt, AreRelationsAt, IsSieveOf, IsSieveOver, state_asked, source_rows, sieved_probes};
 
 use crate::query::{Query, predicate_table, source_table};
 use pl_hyper::Ear;
@@ -27,6 +29,9 @@ pub fn core_relations<L: Ledger>(
     requires numbers { All (λ e. e < length form.now.edges) numbers.now }
     ensures relations { IfOk result (λ v.
         AreRelationsAt query.now.normal.now query.now.schema.now (state_asked query.now) numbers.now v.items) }
+    ensures few { IfOk result (λ v. total_rows v.items ≤ sum_by (source_rows query.now) numbers.now) }
+    ensures cost { IfOk result (λ _. steps.new
+        ≤ steps.old + sieved_probes form.now (sum_by (source_rows query.now) numbers.now)) }
     ensures rise { steps.old ≤ steps.new }
 {
     let mut relations = Vec::with_capacity(alloc, numbers.len())?;
@@ -49,6 +54,9 @@ pub fn ear_relations<L: Ledger>(
     requires ears { All (λ ear. ear.edge < length form.now.edges) ears.now }
     ensures relations { IfOk result (λ v.
         AreRelationsAt query.now.normal.now query.now.schema.now (state_asked query.now) (map (λ ear. ear.edge) ears.now) v.items) }
+    ensures few { IfOk result (λ v. total_rows v.items ≤ sum_by (source_rows query.now) (map (λ ear. ear.edge) ears.now)) }
+    ensures cost { IfOk result (λ _. steps.new
+        ≤ steps.old + sieved_probes form.now (sum_by (source_rows query.now) (map (λ ear. ear.edge) ears.now))) }
     ensures rise { steps.old ≤ steps.new }
 {
     let mut relations = Vec::with_capacity(alloc, ears.len())?;
@@ -59,6 +67,8 @@ pub fn ear_relations<L: Ledger>(
 }
 
 /// The relation of an edge: over its classes, the rows of its source that its slots and its local filters let pass.
+///
+/// It takes a probe for each row of the source, and for each local filter of the schema at most two more.
 fn edge_relation<L: Ledger>(
     alloc: Global,
     query: &Query<'_>,
@@ -70,6 +80,9 @@ fn edge_relation<L: Ledger>(
     requires form { IsNormalForm query.now.normal.now query.now.schema.now form.now }
     requires number { number < length form.now.edges }
     ensures relation { IfOk result (IsRelationAt query.now.normal.now query.now.schema.now (state_asked query.now) number) }
+    ensures whole { IfOk result IsRelation }
+    ensures few { IfOk result (λ r. length r.rows ≤ source_rows query.now number) }
+    ensures cost { IfOk result (λ _. steps.new ≤ steps.old + sieved_probes form.now (source_rows query.now number)) }
     ensures rise { steps.old ≤ steps.new }
 {
     let edge = &form.edges.as_slice()[number as usize];
@@ -81,10 +94,12 @@ fn edge_relation<L: Ledger>(
             relation = sieved(alloc, query, &relation, &placed.sieve, steps)?;
         }
     }
+    // That it is a relation is a clause of its parts.
+    let _ = relation.classes();
     Ok(relation)
 }
 
-/// The rows of a relation that a filter over its classes lets pass.
+/// The rows of a relation that a filter over its classes lets pass. It takes at most two probes for each row.
 fn sieved<L: Ledger>(
     alloc: Global,
     query: &Query<'_>,
@@ -98,8 +113,12 @@ fn sieved<L: Ledger>(
     ensures classes { IfOk result (λ r. r.classes ≡ relation.now.classes) }
     ensures rows { IfOk result (λ r. (f : Assignment) → Holds r f
         ↔ (Holds relation.now f × IsTrue (meets_sieve (state_asked query.now) f sieve.now))) }
+    ensures whole { IsRelation relation.now }
+    ensures cost { steps.new ≤ steps.old + 2 * length relation.now.rows }
     ensures rise { steps.old ≤ steps.new }
 {
+    // That it is a relation is a clause of its parts.
+    let _ = relation.classes();
     match sieve {
         Sieve::NotEqual(a, b) => filter_unequal(alloc, relation, *a, *b, steps),
         Sieve::Absent(predicate, slots) => {

@@ -1,12 +1,14 @@
 //! The turn of one schema in a walk.
 
-ghost use Rattle.std.specs.Prelude.{◌≡◌, ◌≤◌, ◌<◌, length, slice_index, All};
+ghost use Rattle.std.specs.Prelude.{◌≡◌, ◌≤◌, ◌<◌, ◌+◌, ◌*◌, [], Some, length, slice_index, All};
 ghost use Rattle.pl_join.specs.Relation.{Agree, AreDistinct};
+ghost use Rattle.pl_normal.specs.Filters.{late_of};
 ghost use Rattle.pl_normal.specs.Measures.{assigned};
 ghost use Rattle.pl_normal.specs.NormalForm.{IsNormalForm};
 ghost use Rattle.pl_gen.specs.Queries.{IsQuery};
 ghost use Rattle.pl_gen.specs.Turns.{HasNextRow, HasNextStep};
 ghost use Rattle.pl_gen.specs.Kept.{AreRowsFor, IsTurnOf};
+ghost use Rattle.pl_gen.specs.Reads.{row_reads, turn_reads_of, TakesOfLocal};
 
 use crate::late::passes_all;
 use crate::query::Query;
@@ -41,6 +43,10 @@ pub fn next_values<L: Ledger>(
     ensures next { HasNextStep query.now turn.old turn.new values.new result }
     ensures turn { IsTurnOf query.now.normal.now query.now.number turn.new }
     ensures values { length values.new ≡ 64 }
+    ensures cost { steps.new + turn_reads_of (Some query.now.schema.now) turn.new
+        ≤ steps.old + turn_reads_of (Some query.now.schema.now) turn.old }
+    ensures local { late_of query.now.schema.now ≡ []
+        → TakesOfLocal query.now.schema.now steps.old steps.new result }
     ensures rise { steps.old ≤ steps.new }
 {
     match turn {
@@ -68,6 +74,10 @@ fn next_row<L: Ledger>(
     ensures next { HasNextRow query.now cursor.old.left cursor.new.left values.new result }
     ensures rows { AreRowsFor query.now.normal.now query.now.number cursor.new }
     ensures values { length values.new ≡ 64 }
+    ensures cost { steps.new + length cursor.new.left * row_reads query.now.schema.now
+        ≤ steps.old + length cursor.old.left * row_reads query.now.schema.now }
+    ensures local { late_of query.now.schema.now ≡ []
+        → TakesOfLocal query.now.schema.now steps.old steps.new result }
     ensures rise { steps.old ≤ steps.new }
 {
     let late = form.late.as_slice();

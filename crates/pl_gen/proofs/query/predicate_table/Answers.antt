@@ -21,3 +21,11 @@ returns-in-Some-static_table-clause-arity c =
 pub returns-in-Some-static_table-clause-rows : goal.returns-in-Some-static_table-clause-rows
 returns-in-Some-static_table-clause-rows c =
     (static_table c.args.query.now.normal.now c.args.query.now.words.now c.args.predicate c.in-Some-static_table.table.now c.in-Some-static_table.ensures.is_static c.in-Some-static_table.ensures.table).rows
+
+pub returns-in-Some-clause-objects : goal.returns-in-Some-clause-objects
+returns-in-Some-clause-objects c =
+    (fluent_table c.args.query.now.normal.now c.args.query.now.words.now c.args.query.now.tables.now c.args.predicate c.in-Some.table.now c.requires.query.tables c.requires.predicate c.in-Some.ensures).objects
+
+pub returns-in-Some-static_table-clause-objects : goal.returns-in-Some-static_table-clause-objects
+returns-in-Some-static_table-clause-objects c =
+    (static_table c.args.query.now.normal.now c.args.query.now.words.now c.args.predicate c.in-Some-static_table.table.now c.in-Some-static_table.ensures.is_static c.in-Some-static_table.ensures.table).objects

@@ -1,5 +1,5 @@
-use Rattle.std.proofs.Common.{◌≤◌, take}
-use Rattle.pl_gen.specs.Queries.{edge_at, state_asked}
+use Rattle.std.proofs.Common.{◌≤◌, ◌+◌, ◌*◌, take}
+use Rattle.pl_gen.specs.Queries.{edge_at, state_asked, source_rows}
 use Rattle.pl_gen.proofs.Edging.{IsSieved}
 use Rattle.pl_gen.proofs.relations.edge_relation.Given as goal
 
@@ -7,3 +7,4 @@ abbrev pub invariant-loop-placed : goal.invariant-loop-placed
 invariant-loop-placed g l =
     IsSieved l.query.normal.now l.query.schema.now (state_asked l.query) (edge_at l.form.edges l.number) l.number (take l.placed-index l.local) l.relation
     × (l.initial.steps ≤ l.steps)
+    × (l.steps ≤ l.initial.steps + l.placed-index * (2 * source_rows l.query l.number))

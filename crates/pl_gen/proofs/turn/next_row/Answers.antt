@@ -6,6 +6,7 @@ use Rattle.std.specs.List.{list_all}
 use Rattle.std.specs.Prelude.{slice_index}
 use Rattle.pl_gen.proofs.Forms.{schema_of, late_are}
 use Rattle.pl_gen.proofs.Stepping.{given, row_wide, rows_after, front_of_order, all_classes_below, classes_distinct, agree_along, late_is, row_passes, row_fails}
+use Rattle.pl_gen.proofs.Reading.{row_read, row_local, none_fails}
 use Rattle.pl_gen.proofs.turn.next_row.Goals as goal
 
 pub slice_bounds-write_values-end : goal.slice_bounds-write_values-end
@@ -56,6 +57,17 @@ returns-then-passes_all-clause-rows g c =
     let gives = given c.loop-row.cursor c.next.follows.lender-at-none c.next.result c.in-Some.row c.in-Some.is c.next.follows.holds-at-none in
     rows_after c.args.query.now.normal.now c.args.query.now.number c.loop-row.cursor c.next.follows.lender-at-none c.in-Some.row.now c.loop-row.invariant.1 gives
 
+pub returns-then-passes_all-clause-cost : goal.returns-then-passes_all-clause-cost
+returns-then-passes_all-clause-cost g c =
+    let gives = given c.loop-row.cursor c.next.follows.lender-at-none c.next.result c.in-Some.row c.in-Some.is c.next.follows.holds-at-none in
+    row_read c.args.query.now.schema.now c.loop-row.cursor c.next.follows.lender-at-none c.in-Some.row.now c.as_slice-late.result.now _ c.loop-row.steps c.next.new.steps c.passes_all.new.steps c.loop-row.invariant.4 gives
+    (c.loop-row.invariant.1.classes c.args.query.now.schema.now c.requires.query.found) (c.as_slice-late.ensures ∙ c.requires.form.late) c.next.ensures.cost c.passes_all.ensures.cost
+
+pub returns-then-passes_all-clause-local : goal.returns-then-passes_all-clause-local
+returns-then-passes_all-clause-local g c = λ none.
+    row_local c.args.query.now.schema.now c.loop-row.cursor c.as_slice-late.result.now c.args.steps.now c.loop-row.steps c.next.new.steps c.passes_all.new.steps none (c.loop-row.invariant.5 none)
+    (c.loop-row.invariant.1.classes c.args.query.now.schema.now c.requires.query.found) (c.as_slice-late.ensures ∙ c.requires.form.late) c.next.ensures.cost c.passes_all.ensures.cost
+
 pub loop-row-preserved : goal.loop-row-preserved
 loop-row-preserved g c =
     let gives = given c.loop-row.cursor c.next.follows.lender-at-none c.next.result c.in-Some.row c.in-Some.is c.next.follows.holds-at-none in
@@ -67,4 +79,7 @@ loop-row-preserved g c =
       rows_after c.args.query.now.normal.now c.args.query.now.number c.loop-row.cursor c.next.follows.lender-at-none c.in-Some.row.now c.loop-row.invariant.1 gives,
       search (c.write_values.ensures.same, c.loop-row.invariant),
       search (arith, c.passes_all.ensures.rise, c.loop-row.invariant, c.next.ensures.rise),
+      row_read c.args.query.now.schema.now c.loop-row.cursor c.next.follows.lender-at-none c.in-Some.row.now c.as_slice-late.result.now _ c.loop-row.steps c.next.new.steps c.passes_all.new.steps c.loop-row.invariant.4 gives
+          (c.loop-row.invariant.1.classes c.args.query.now.schema.now c.requires.query.found) (c.as_slice-late.ensures ∙ c.requires.form.late) c.next.ensures.cost c.passes_all.ensures.cost,
+      λ none. none_fails _ _ c.passes_all.result none is c.if-passes_all.false,
     )

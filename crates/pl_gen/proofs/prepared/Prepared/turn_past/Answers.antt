@@ -1,10 +1,11 @@
-use Rattle.std.proofs.Common.{refl, ap, ◌∙◌, length, take, map}
+use Rattle.std.proofs.Common.{arith, refl, ap, ◌∙◌, length, take, map}
 use Rattle.std.specs.Prelude.{slice_index}
 use Rattle.std.proofs.lemmas.Option.{slice_get_within}
 use Rattle.pl_cursor.specs.Cursor.{is_past}
 use Rattle.pl_gen.specs.Walks.{step_with}
 use Rattle.pl_gen.proofs.Turning.{once_turn_of, over_steps}
 use Rattle.pl_gen.proofs.Stepping.{key_classes, key_few, entry_of_step, join_classes, past_here, once_past_here, never_past_here, rows_here_of, front_is, then_once, else_once}
+use Rattle.pl_gen.proofs.Reading.{over_reads, once_reads, past_reads_here, sought}
 use Rattle.pl_gen.proofs.prepared.Prepared.turn_past.Goals as goal
 
 pub write_key-requires-clause-classes : goal.write_key-requires-clause-classes
@@ -46,3 +47,23 @@ pub returns-in-Tables-clause-turn : goal.returns-in-Tables-clause-turn
 returns-in-Tables-clause-turn g c =
     rows_here_of c.args.self.now c.self.inside.normal.now c.self.inside.words.items c.self.inside.tables c.self.inside.entries.items c.args.past.schema c.index.result.now c.in-Tables.reduced c.seek.result (is_past c.key_is_above-inclusive.result (take (length c.classes-classes.result.now) c.write_key.new.key)) c.self.view_is c.self.invariant
     (slice_get_within c.args.self.now.task.schemas c.args.past.schema c.requires.schema c.requires.found) c.index.ensures c.in-Tables.is c.seek.ensures.join c.seek.ensures.answers
+
+pub returns-in-Never-clause-cost : goal.returns-in-Never-clause-cost
+returns-in-Never-clause-cost g c = let reads = over_reads c.args.self.now c.args.past.schema in omega (arith, reads)
+
+pub returns-then-key_is_above-clause-cost : goal.returns-then-key_is_above-clause-cost
+returns-then-key_is_above-clause-cost g c = let reads = once_reads c.args.self.now c.args.past.schema in omega (arith, reads)
+
+pub returns-else-key_is_above-clause-cost : goal.returns-else-key_is_above-clause-cost
+returns-else-key_is_above-clause-cost g c = let reads = over_reads c.args.self.now c.args.past.schema in omega (arith, reads)
+
+pub returns-in-Tables-clause-cost : goal.returns-in-Tables-clause-cost
+returns-in-Tables-clause-cost g c =
+    past_reads_here c.args.self.now c.self.inside.normal.now c.self.inside.words.items c.self.inside.tables c.self.inside.entries.items c.args.past.schema c.args.steps.now c.seek.new.steps c.index.result.now c.in-Tables.reduced c.seek.result
+    (is_past c.key_is_above-inclusive.result (take (length c.classes-classes.result.now) c.write_key.new.key)) c.requires.schema c.self.view_is c.self.invariant c.requires.found c.index.ensures c.in-Tables.is
+    c.answers_are_listed.ensures c.seek.ensures.answers c.answers_past_are_a_part.ensures c.seek.ensures.cost
+
+pub returns-in-Tables-clause-sought : goal.returns-in-Tables-clause-sought
+returns-in-Tables-clause-sought g c = λ s found.
+    sought c.args.steps.now c.seek.new.steps c.in-Tables.reduced.classes c.classes-classes.result.now s c.classes-classes.ensures
+    (join_classes c.args.self.now c.self.inside.normal.now c.self.inside.words.items c.self.inside.tables c.self.inside.entries.items (step_with c.args.past.schema c.args.past.args.now) c.index.result.now s c.in-Tables.reduced c.classes-classes.result.now c.self.view_is c.self.invariant c.index.ensures c.in-Tables.is c.classes-classes.ensures found) c.seek.ensures.cost
