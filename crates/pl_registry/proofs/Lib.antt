@@ -11,4 +11,12 @@ pub mod Agreement
 pub mod Endings
 pub mod OneEnding
 mod Registering
-mod SearchLaws
+pub mod SearchLaws
+-- how a search by number grows, for its loop
+pub mod Growing
+pub mod Numbered
+pub mod ByRank
+pub mod Holding
+pub mod HoldingByRank
+pub mod Running
+mod ToldApart

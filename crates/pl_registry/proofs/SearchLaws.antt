@@ -8,9 +8,11 @@ use Rattle.pl_registry.specs.declared.search.Search.TheVariants as search
 use Rattle.pl_registry.specs.StateSpace.{space_of}
 use Rattle.pl_registry.specs.Cut.{IsCut, IsKept}
 use Rattle.pl_registry.specs.Ending.{by_number}
-use Rattle.pl_registry.specs.Laws.{FoundListsArePlans, UnsolvableHasNoPlan, NoneIsShorter, LimitIsPassed, EndingIsOne}
+use Rattle.pl_registry.specs.Laws.{FoundListsArePlans, UnsolvableHasNoPlan, NoneIsShorter, LimitIsPassed, EndingIsOne, HasEnding}
 use Rattle.pl_registry.proofs.Plans.{goal_or_not}
 use Rattle.pl_registry.proofs.OneEnding.{one_cut, one_width}
+use Rattle.pl_registry.proofs.Running.{ending_there}
+use Rattle.pl_registry.proofs.ToldApart.{told_apart}
 use Rattle.pl_registry.proofs.Endings.{found_is_plan, unsolvable_has_no_plan, limit_is_passed, none_is_shorter, width_found_is_plan, width_unsolvable_has_no_plan, width_limit_is_passed}
 
 pub found_lists : (task : Task) (by : Search) → FoundListsArePlans task by
@@ -42,3 +44,6 @@ endings_one task search.Bfs limit cut r q e f a b = one_cut (space_of task) (IsC
 endings_one task search.Gbfs limit cut r q e f a b = one_cut (space_of task) (IsCut cut) (IsKept cut) (unmet task) limit (cut_or_kept cut) r q e f a b
 endings_one task search.Iw1 limit cut r q e f a b = one_width (space_of task) task 1 limit r q e f a b
 endings_one task search.Iw2 limit cut r q e f a b = one_width (space_of task) task 2 limit r q e f a b
+
+pub has_ending : (task : Task) → HasEnding task
+has_ending task cut limit some = ending_there (space_of task) cut limit (told_apart task) some

@@ -40,3 +40,8 @@ LimitIsPassed task by = (cut : State → Bool) (limit : ℕ) (r : SearchRecord) 
 abbrev pub EndingIsOne : Task → Search → ℕ → Type 0
 EndingIsOne task by limit = (cut : State → Bool) (r q : SearchRecord) (a b : Ending) (stats counts : Stats) →
     IsEndingOf task cut by limit r a stats → IsEndingOf task cut by limit q b counts → (r ≡ q) × (a ≡ b) × (stats ≡ counts)
+
+-- breadth-first search has an ending under each limit of at least one state, whatever states are cut
+abbrev pub HasEnding : Task → Type 0
+HasEnding task = (cut : State → Bool) (limit : ℕ) → 1 ≤ limit →
+    (r : SearchRecord) × (e : Ending) × (stats : Stats) × IsEndingOf task cut search.Bfs limit r e stats

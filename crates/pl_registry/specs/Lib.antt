@@ -7,5 +7,10 @@ pub mod Ending
 pub mod Laws
 -- what contracts see of a registry
 pub mod Registered
+pub mod Fresh
+-- a search by number under way, and the registry beside it
+pub mod Held
+-- the same of a search by any rank
+pub mod HeldByRank
 -- what the functions inside the crate promise each other
 pub mod Links

@@ -1,6 +1,6 @@
 //! The registered states of a search.
 
-ghost use Rattle.std.specs.Prelude.{◌≡◌, ◌<◌, ◌≤◌, ◌-◌, ◌^◌, ◌∷◌, [], length, IfOk};
+ghost use Rattle.std.specs.Prelude.{◌≡◌, ◌<◌, ◌≤◌, ◌-◌, ◌^◌, ◌∷◌, ◌++◌, [], length, reverse, IfOk};
 ghost use Rattle.pl_registry.specs.Registered.{Register, Registered, IsRegister, Adds, Finds, initially, registered_at, registered_path};
 
 use crate::added::{Added, Refused};
@@ -112,7 +112,27 @@ impl Registry {
         requires { n < length self.now.entries }
         ensures { IfOk result (λ plan. plan ≡ registered_path self.now.entries n) }
     {
+        self.path_before(alloc, n, Vec::new(alloc))
+    }
+
+    /// The steps that lead to the state with a number, and then one more step.
+    pub fn path_then(&self, alloc: Global, n: u32, last: StepRef<'_>) -> Result<Plan, AllocError>
+        requires number { n < length self.now.entries }
+        requires step { length last.args.now ≤ 64 }
+        ensures { IfOk result (λ plan. plan ≡ registered_path self.now.entries n
+            ++ record { schema = last.entry.schema; args = last.entry.args.now } ∷ []) }
+    {
         let mut steps = Vec::new(alloc);
+        steps.push(Step::of(alloc, last)?)?;
+        self.path_before(alloc, n, steps)
+    }
+
+    /// The steps that lead to the state with a number, and then those given, of which the last one comes first.
+    fn path_before(&self, alloc: Global, n: u32, given: Vec<Step>) -> Result<Plan, AllocError>
+        requires { n < length self.now.entries }
+        ensures { IfOk result (λ plan. plan ≡ registered_path self.now.entries n ++ reverse given.items) }
+    {
+        let mut steps = given;
         let mut at = n as usize;
         while at != 0 {
             steps.push(Step::of(alloc, self.links.step(at))?)?;

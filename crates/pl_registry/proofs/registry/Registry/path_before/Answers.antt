@@ -3,7 +3,7 @@ use Rattle.pl_task.specs.Instance.{Instance}
 use Rattle.pl_registry.specs.Links.{Link, link_at}
 use Rattle.pl_registry.specs.Registered.{registered_path}
 use Rattle.pl_registry.proofs.Registering.{many, path_up, lower_above, reverse_push}
-use Rattle.pl_registry.proofs.registry.Registry.path.Goals as goal
+use Rattle.pl_registry.proofs.registry.Registry.path_before.Goals as goal
 
 pub step-requires : goal.step-requires
 step-requires c =
