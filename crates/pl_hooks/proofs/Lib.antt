@@ -1,2 +1,10 @@
 -- a stuck goal literal stays stuck
-pub mod Hopeless
+pub mod DeadEnds
+-- which effects could give an atom
+pub mod Fixings
+-- which states are hopeless
+pub mod StuckLemmas
+-- closures that are fit for a pruner
+pub mod Cuts
+-- the task of the tests
+pub mod TwinLemmas

@@ -1,4 +1,10 @@
 -- what the closures of hooks keep
 pub mod Sound
+-- what a search may do by what its pruner may answer
+pub mod Asked
 pub mod Laws
 pub use Rattle.pl_registry.specs.Cut
+-- what is decided once a task
+pub mod Fixed
+-- the task of the tests
+pub mod Twins

@@ -1,14 +1,17 @@
 //! Hooks on a small task, worked by hand.
 
-ghost use Rattle.std.specs.Prelude.{◌≡◌, ◌≤◌, [], false, length, All, IfOk, IsTrue};
+ghost use Rattle.std.specs.Prelude.{◌≡◌, ◌≤◌, ◌↔◌, [], false, length, All, IfOk, IsTrue};
 ghost use Rattle.pl_task.specs.declared.data.ObjectDef.{ObjectDef as ObjectOf};
-ghost use Rattle.pl_task.specs.Goal.{unmet as unmet_in};
+ghost use Rattle.pl_task.specs.Goal.{unmet as unmet_in, IsHopeless};
 ghost use Rattle.pl_task.specs.WellFormed.{IsAtomOf};
 ghost use Rattle.pl_state.specs.Layout.{atom_of};
 ghost use Rattle.pl_state.specs.StateOf.{state_in, IsStateOf};
 ghost use Rattle.pl_state.specs.Hops.{at_place, done, place, hop, finish, spread, IsHopGoal};
+ghost use Rattle.pl_hooks.specs.Fixed.{IsFixedGoal};
 
-use crate::{Pruner, Ranker};
+mod twins;
+
+use crate::{HopelessTest, Pruner, Ranker};
 use pl_state::{Packed, pack, unmet};
 use pl_task::{
     Atom, GoalLiteral, Lifted, List, ObjectDef, Parameter, PredicateDef, Schema, Task, Term,
@@ -237,6 +240,16 @@ fn is_cut(task: &Task, state: &Packed) -> bool
     ensures { result ≡ false }
 {
     let pruner = Pruner::new(task, |_state: &Packed| false);
+    pruner.cut(state)
+}
+
+/// The answer of a pruner that cuts hopeless states.
+fn is_hopeless_cut(test: &HopelessTest, task: &Task, state: &Packed) -> bool
+    requires goal { IsFixedGoal task.now test.now }
+    requires state { IsStateOf task.now state.now }
+    ensures { IsTrue result ↔ IsHopeless task.now (state_in task.now state.now) }
+{
+    let pruner = Pruner::new(task, |state: &Packed| test.is_hopeless(task, state));
     pruner.cut(state)
 }
 

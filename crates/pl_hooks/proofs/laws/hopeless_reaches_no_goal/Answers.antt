@@ -1,4 +1,4 @@
-use Rattle.pl_hooks.proofs.Hopeless.{hopeless_reaches_no_goal}
+use Rattle.pl_hooks.proofs.DeadEnds.{hopeless_reaches_no_goal}
 use Rattle.pl_hooks.proofs.laws.hopeless_reaches_no_goal.Goals as goal
 
 pub returns : goal.returns
