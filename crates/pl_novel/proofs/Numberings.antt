@@ -1,0 +1,100 @@
+-- The loops that number the atoms of a state.
+use Rattle.std.proofs.Common.{◌≡◌, ◌+◌, ◌<◌, ◌≤◌, ℕ, true, List, [], ◌∷◌, ◌++◌, map, length, get_or, take, position, slice_get, Some, refl, sym, ap, ◌∙◌, subst, All, arith, append_assoc, length-append}
+use Rattle.std.specs.List.{list_any}
+use Rattle.std.specs.Str.{bytes_eq}
+use Rattle.std.proofs.lemmas.List.{map-append, take_more, take_all, append-nil, get_or_append_left, get_or_default}
+use Rattle.std.proofs.lemmas.List.Elements.{All-nil, All-cons, All-append, All-weaker, All-head, All-tail}
+use Rattle.std.proofs.lemmas.List.Quantifiers.{position-Some}
+use Rattle.std.proofs.lemmas.Option.{get_or_from_slice_get}
+use Rattle.std.proofs.lemmas.Slice.Eq.{bytes_eq-Decides}
+use Rattle.indexmap.specs.IndexSet.{insert_key}
+use Rattle.pl_novel.specs.Keys.{key_at, with_all, IsPlaced, AreNumbered, Extends}
+use Rattle.pl_novel.proofs.Lists.{member_found, all_append, all_extends, extends_by}
+
+-- a key that is there
+pub placed_there : (keys : List (List ℕ)) (key : List ℕ) (n : ℕ) → Some n ≡ position (bytes_eq key) keys → IsPlaced keys key keys n
+placed_there keys key n found =
+    let (l, same, _) = position-Some (bytes_eq key) keys n [] (sym found) in
+    let is : key ≡ get_or keys n [] = (bytes_eq-Decides key (get_or keys n [])).0 same in
+    let there : list_any (bytes_eq key) keys ≡ true = member_found keys key (n, l, get_or_default keys n key [] l ∙ sym is) in
+    record {
+      new_is = rw there refl;
+      within = l;
+      reads = sym is;
+    }
+
+-- a key that was put there
+pub placed_new : (keys new : List (List ℕ)) (key made stored : List ℕ) (n : ℕ) → made ≡ key → new ≡ insert_key bytes_eq keys made → n < length new →
+    slice_get new n ≡ Some stored → bytes_eq made stored ≡ true → IsPlaced keys key new n
+placed_new keys new key made stored n copied is within at same = record {
+  new_is = is ∙ ap (insert_key bytes_eq keys) copied;
+  within = within;
+  reads = get_or_from_slice_get new n stored [] at ∙ sym ((bytes_eq-Decides made stored).0 same) ∙ copied;
+}
+
+pub placed_extends : (keys new : List (List ℕ)) (key : List ℕ) (n : ℕ) → IsPlaced keys key new n → Extends keys new
+placed_extends keys new key n p = extends_by keys (with_all keys (key ∷ [])) new (all_extends keys (key ∷ [])) (sym p.new_is)
+
+-- numbers of keys stay those of the keys where the list grows
+reads_on : (old new : List (List ℕ)) (numbers : List ℕ) → Extends old new → All (λ n. n < length old) numbers → map (key_at new) numbers ≡ map (key_at old) numbers
+reads_on old new [] e within = refl
+reads_on old new (n ∷ numbers) e within =
+    let here : key_at new n ≡ key_at old n = ap (λ ks. key_at ks n) e.is ∙ get_or_append_left old e.more [] n (All-head (λ m. m < length old) n numbers within) in
+    let rest = reads_on old new numbers e (All-tail (λ m. m < length old) n numbers within) in
+    (λ i. here i ∷ rest i)
+
+longer : (old new : List (List ℕ)) → Extends old new → length old ≤ length new
+longer old new e = let l = ap length e.is in let a = length-append old e.more in omega (arith, l, a)
+
+within_on : (old new : List (List ℕ)) (numbers : List ℕ) → Extends old new → All (λ n. n < length old) numbers → All (λ n. n < length new) numbers
+within_on old new numbers e within = let l = longer old new e in All-weaker (λ n. n < length old) (λ n. n < length new) (λ n h. omega (arith, h, l)) numbers within
+
+pub numbered_none : (old : List (List ℕ)) (numbers : List ℕ) → AreNumbered old numbers [] old numbers
+numbered_none old numbers = record {
+  added = [];
+  new_is = refl;
+  more_is = sym (append-nil numbers);
+  within = All-nil (λ n. n < length old);
+  reads = refl;
+}
+
+pub numbered_extends : (old keys new : List (List ℕ)) (numbers more : List ℕ) → AreNumbered old numbers keys new more → Extends old new
+numbered_extends old keys new numbers more n = extends_by old (with_all old keys) new (all_extends old keys) (sym n.new_is)
+
+-- first some keys, then others
+pub numbered_trans : (old keys now others new : List (List ℕ)) (numbers more most : List ℕ) → AreNumbered old numbers keys now more → AreNumbered now more others new most →
+    AreNumbered old numbers (keys ++ others) new most
+numbered_trans old keys now others new numbers more most a b =
+    let e = numbered_extends now others new more most b in
+    record {
+      added = a.added ++ b.added;
+      new_is = b.new_is ∙ ap (λ ks. with_all ks others) a.new_is ∙ sym (all_append old keys others);
+      more_is = b.more_is ∙ ap (λ ns. ns ++ b.added) a.more_is ∙ append_assoc numbers a.added b.added;
+      within = All-append (λ n. n < length new) a.added b.added (within_on now new a.added e a.within) b.within;
+      reads = map-append (key_at new) a.added b.added ∙ (λ i. (reads_on now new a.added e a.within ∙ a.reads) i ++ b.reads i);
+    }
+
+-- one key
+pub numbered_one : (old new : List (List ℕ)) (key : List ℕ) (n : ℕ) (numbers more : List ℕ) → IsPlaced old key new n → more ≡ numbers ++ n ∷ [] → AreNumbered old numbers (key ∷ []) new more
+numbered_one old new key n numbers more p is = record {
+  added = n ∷ [];
+  new_is = p.new_is;
+  more_is = is;
+  within = All-cons (λ m. m < length new) n [] p.within (All-nil (λ m. m < length new));
+  reads = ap (λ k. k ∷ []) p.reads;
+}
+
+-- one more row
+pub numbered_row : (old now new : List (List ℕ)) (rows : List (List ℕ)) (predicate i n : ℕ) (row key : List ℕ) (numbers more most : List ℕ) → i < length rows → row ≡ get_or rows i [] →
+    key ≡ predicate ∷ row → AreNumbered old numbers (map (λ r. predicate ∷ r) (take i rows)) now more → IsPlaced now key new n → most ≡ more ++ n ∷ [] →
+    AreNumbered old numbers (map (λ r. predicate ∷ r) (take (i + 1) rows)) new most
+numbered_row old now new rows predicate i n row key numbers more most l reads made before placed pushed =
+    let cut : map (λ r. predicate ∷ r) (take i rows) ++ key ∷ [] ≡ map (λ r. predicate ∷ r) (take (i + 1) rows) =
+    ap (λ k. map (λ r. predicate ∷ r) (take i rows) ++ k ∷ []) (made ∙ ap (λ r. predicate ∷ r) reads)
+    ∙ sym (ap (map (λ r. predicate ∷ r)) (take_more rows i [] l) ∙ map-append (λ r. predicate ∷ r) (take i rows) (get_or rows i [] ∷ [])) in
+    subst (λ ks. AreNumbered old numbers ks new most) cut
+    (numbered_trans old (map (λ r. predicate ∷ r) (take i rows)) now (key ∷ []) new numbers more most before (numbered_one now new key n more most placed pushed))
+
+pub numbered_rows : (old now rows : List (List ℕ)) (predicate i : ℕ) (numbers more : List ℕ) → length rows ≤ i → AreNumbered old numbers (map (λ r. predicate ∷ r) (take i rows)) now more →
+    AreNumbered old numbers (map (λ r. predicate ∷ r) rows) now more
+numbered_rows old now rows predicate i numbers more l n = subst (λ rs. AreNumbered old numbers (map (λ r. predicate ∷ r) rs) now more) (take_all i rows l) n

@@ -1,0 +1,88 @@
+//! The key of an atom.
+
+ghost use Rattle.std.specs.Prelude.{◌≡◌, ◌∷◌, [], nat_eq, IfOk, OnOk};
+ghost use Rattle.std.specs.Cmp as order;
+ghost use Rattle.std.specs.Hash as fed;
+ghost use Rattle.std.specs.Cmp.Lexicographic.{pointwise, nat_list_eq_equiv};
+ghost use Rattle.std.specs.Cmp.Rules.{hashing};
+ghost use Rattle.std.proofs.Common.{rules};
+
+use std::alloc::{AllocError, Global};
+use std::hash::{Hash, Hasher};
+use std::marker::Model;
+
+/// An atom as one list of words: its predicate, then its objects. Equal, hashed and seen by contracts as these.
+#[derive(Drop)]
+pub(crate) struct Key {
+    words: Vec<u32>,
+}
+
+impl Model for Key {
+    ghost use Rattle.std.specs.Prelude.{List, ℕ};
+
+    ghost Value = { List ℕ };
+
+    ghost view = { λ key. key.words.items };
+}
+
+impl Key {
+    /// A key without words. Takes no memory.
+    pub(crate) fn new(alloc: Global) -> Key
+        ensures { result ≡ [] }
+    {
+        Key {
+            words: Vec::new(alloc),
+        }
+    }
+
+    /// Makes this the key of an atom, in the memory that it has as far as that goes.
+    pub(crate) fn set(&mut self, predicate: u32, objects: &[u32]) -> Result<(), AllocError>
+        ensures { OnOk result (self.new ≡ predicate ∷ objects.now) }
+    {
+        self.words.clear();
+        self.words.push(predicate)?;
+        self.words.extend_from_slice(objects)?;
+        Ok(())
+    }
+
+    /// A copy of the key.
+    pub(crate) fn copy(&self, alloc: Global) -> Result<Key, AllocError>
+        ensures { IfOk result (λ key. key ≡ self.now) }
+    {
+        let words = Vec::from_slice(alloc, self.words())?;
+        Ok(Key { words })
+    }
+
+    #[inline]
+    fn words(&self) -> &[u32]
+        ensures { result.now ≡ self.now }
+    {
+        self.words.as_slice()
+    }
+}
+
+impl PartialEq for Key {
+    ghost eq = { pointwise nat_eq };
+
+    ghost laws = { order.partial_equiv_from_equiv nat_list_eq_equiv };
+
+    #[inline]
+    fn eq(&self, other: &Key) -> bool {
+        self.words() == other.words()
+    }
+}
+
+impl Eq for Key {
+    ghost laws = { nat_list_eq_equiv };
+}
+
+impl Hash for Key {
+    ghost hash_input = { fed.slice fed.u32 };
+
+    ghost respects_eq = { Prim.search (hashing, rules) };
+
+    #[inline]
+    fn hash<H: Hasher>(&self, state: &mut H) {
+        self.words().hash(state);
+    }
+}
