@@ -1,0 +1,14 @@
+-- one step of an expanded state
+mod Trials
+mod Within
+-- bounds on probes
+mod Bounds
+-- the search as a whole
+mod Whole
+-- width search
+mod Sifted
+mod SiftedTrials
+mod SiftedTurns
+mod SiftedWhole
+-- the task of tests
+mod MarkLemmas

@@ -1,0 +1,47 @@
+-- A search under way, and what its parts leave.
+use Rattle.std.specs.Prelude.{◌≡◌, ◌<◌, ◌≤◌, ℕ, suc, Bool, List, length, Option, Some, None, Result, Ok, Err}
+use Rattle.std.specs.List.{sum_by}
+use Rattle.std.specs.Borrow.{Bor}
+use denote.Param.Members.{Shared}
+use Rattle.pl_task.specs.declared.task.Task.{Task}
+use Rattle.pl_task.specs.Instance.{Instance}
+use Rattle.pl_normal.specs.Measures.{probe_bound}
+use Rattle.pl_registry.specs.StateSpace.{space_of}
+use Rattle.pl_registry.specs.declared.ended.Ended.{Ended}
+use Rattle.pl_registry.specs.declared.ended.Outcome.{Outcome}
+use Rattle.pl_registry.specs.Registered.{Register, registered_at}
+use Rattle.pl_registry.specs.Held.{IsUncutSearch, HoldsBetweenTurns, HoldsInTurn, turns, state_at}
+use Rattle.pl_bfs.specs.Breadth.{MayDrop, MayKeep, IsBreadth, IsBrokenOff}
+
+-- an outcome with counts
+abbrev pub ended_by : Outcome → ℕ → ℕ → ℕ → Ended
+ended_by outcome states expanded generated =
+    record { outcome = outcome; stats = record { states = states; expanded = expanded; generated = generated } }
+
+module _ {F : Type 0} (calls : Shared F (Bor (List ℕ) × Unit {0}) Bool) (task : Task) (cut : F) (old : Register) where
+  -- the entries below n were expanded, in order, and all their pairs tried
+  pub record IsBetween (now : Register) (n generated : ℕ) : Type 0 where
+    pub uncut : IsUncutSearch (space_of task) (MayKeep calls task cut)
+    pub turns : HoldsBetweenTurns task (space_of task) (λ _. MayDrop calls task cut) (λ _. MayKeep calls task cut) now n generated
+    pub limit : now.limit ≡ old.limit
+
+  -- the same within the turn of entry n, of whose steps these are left
+  pub record IsWithin (now : Register) (n : ℕ) (left : List Instance) (generated : ℕ) : Type 0 where
+    pub uncut : IsUncutSearch (space_of task) (MayKeep calls task cut)
+    pub turn : HoldsInTurn task (space_of task) (λ _. MayDrop calls task cut) (λ _. MayKeep calls task cut) now n left generated
+    pub limit : now.limit ≡ old.limit
+
+  -- after the turn of entry n the search goes on with the next one, or has ended within the turn, or memory ran out
+  abbrev pub AfterTurn : {E : Type 0} → Register → ℕ → ℕ → Result (Option Ended) E → Type 0
+  AfterTurn new n generated (Ok None) = IsBetween new (suc n) generated
+  AfterTurn new n generated (Ok (Some ended)) = IsBreadth calls task cut old new ended
+  AfterTurn new n generated (Err e) = IsBrokenOff calls task cut old new
+
+-- the entries that were there are there with the same numbers
+pub record KeepsEntries (old new : Register) : Type 0 where
+  pub many : length old.entries ≤ length new.entries
+  pub same : (i : ℕ) → i < length old.entries → registered_at new.entries i ≡ registered_at old.entries i
+
+-- what the turns of the first n entries may probe
+abbrev pub turns_bound : Task → Register → ℕ → ℕ
+turns_bound task now n = sum_by (λ i. probe_bound task (state_at task now i)) (turns n)

@@ -1,0 +1,76 @@
+//! The turn of an entry: its state is expanded.
+
+ghost use Rattle.std.specs.Prelude.{◌≡◌, ◌+◌, ◌<◌, ◌≤◌, length, IfOk, IfSome};
+ghost use Rattle.pl_state.specs.Decided.{IsDecidedGoal};
+ghost use Rattle.pl_normal.specs.Measures.{probe_bound};
+ghost use Rattle.pl_gen.specs.Walks.{AreAcyclic};
+ghost use Rattle.pl_registry.specs.Held.{state_at};
+ghost use Rattle.pl_registry.specs.Registered.{Register, IsRegister};
+ghost use Rattle.pl_hooks.specs.Sound.{IsSoundCut};
+ghost use Rattle.pl_bfs.specs.UnderWay.{IsBetween, AfterTurn, KeepsEntries, ended_by};
+
+use crate::trying::try_step;
+use pl_gen::Prepared;
+use pl_hooks::Pruner;
+use pl_normal::NormalTask;
+use pl_registry::{Ended, Outcome, Registry, Stats};
+use pl_state::{GoalTest, Packed};
+use pl_steps::Steps;
+use std::alloc::{AllocError, Global};
+use std::sync::ledger::Ledger;
+
+/// Tries the applicable steps of entry `n`, the first one that wasn't expanded, until the search ends or none is
+/// left. Each one is counted. The only error is want of memory.
+///
+/// Where all schemas are acyclic it takes at most the bound of the entry's state on probes.
+pub(crate) fn expand<L: Ledger, F: Fn(&Packed) -> bool>(
+    alloc: Global,
+    normal: &NormalTask<'_>,
+    goal: &GoalTest,
+    registry: &mut Registry,
+    pruner: &Pruner<'_, F>,
+    n: u32,
+    generated: &mut u64,
+    steps: &mut Steps<L>,
+) -> Result<Option<Ended>, AllocError>
+    requires goal { IsDecidedGoal normal.now goal.now }
+    requires number { n < length registry.old.entries }
+    requires same { pruner.now.task.now ≡ normal.now }
+    requires sound { IsSoundCut F.Fn normal.now pruner.now.cut }
+    requires way { (first : Register) ×
+        IsBetween F.Fn normal.now pruner.now.cut first registry.old n generated.old }
+    ensures turn { (first : Register) →
+        IsBetween F.Fn normal.now pruner.now.cut first registry.old n generated.old →
+        AfterTurn F.Fn normal.now pruner.now.cut first registry.new n generated.new result }
+    ensures kept { IfOk result (λ _. KeepsEntries registry.old registry.new) }
+    ensures counted { IfOk result (λ end. IfSome end (λ ended. ended.stats.expanded ≡ n + 1)) }
+    ensures cost { IfOk result (λ _. AreAcyclic normal.now →
+        steps.new ≤ steps.old + probe_bound normal.now (state_at normal.now registry.old n)) }
+    ensures rise { steps.old ≤ steps.new }
+{
+    let prepared = Prepared::prepare(alloc, normal, registry.state(n), steps)?;
+    let mut walk = prepared.walk();
+    while let Some(step) = walk.next(steps) {
+        *generated = generated.saturating_add(1);
+        if let Some(outcome) = try_step(alloc, normal.task(), goal, registry, pruner, n, step)? {
+            let expanded = n as u64 + 1;
+            return Ok(Some(ended(outcome, registry, expanded, *generated)));
+        }
+    }
+    Ok(None)
+}
+
+/// An outcome with the counts of the search.
+pub(crate) fn ended(outcome: Outcome, registry: &Registry, expanded: u64, generated: u64) -> Ended
+    ensures register { IsRegister registry.now }
+    ensures ended { result ≡ ended_by outcome (length registry.now.entries) expanded generated }
+{
+    Ended {
+        outcome,
+        stats: Stats {
+            states: registry.len() as u64,
+            expanded,
+            generated,
+        },
+    }
+}
