@@ -1,0 +1,7 @@
+-- one step of an expanded state
+mod Trials
+-- the states that wait
+mod Queueing
+mod Within
+-- the search as a whole
+mod Whole
