@@ -5,7 +5,9 @@ use Rattle.std.specs.List.{flat_map}
 use Rattle.std.proofs.lemmas.Fmt.{length-decimal-le}
 use Rattle.std.proofs.lemmas.List.Concat.{flat_map-append}
 use Rattle.pl_task.specs.Types.{numbers_below}
-use Rattle.pl_make.specs.Texts.{names_text, atom_line, place_of, seed_after, link_line, links_of, hop_problem, relation_name, pairs_text, relation_text, last_relation_text, wide_problem}
+use Rattle.pl_make.specs.Texts.{names_text, atom_line, place_of, seed_after, link_line, links_of, IsSize, domain_text, hop_problem, problem_text, relation_name, pairs_text, relation_text, last_relation_text, wide_problem}
+use Rattle.pl_make.specs.declared.kind.Kind.{Kind}
+use Rattle.pl_make.specs.declared.kind.Kind.TheVariants.{Hop, Wide}
 
 -- pieces of at most m bytes, one for each number below n
 pub pieces-short : (f : ℕ → List ℕ) (m n : ℕ) → ((i : ℕ) → i < n → length (f i) ≤ m) → length (flat_map f (numbers_below n)) ≤ n * m
@@ -86,3 +88,12 @@ wide_problem-short n few =
     together : (names six last : List ℕ) → length names ≤ 10000 → length six ≤ 6 * 300030 → length last ≤ 300030 →
         length (codes "(define (problem wide)\n(:objects" ++ names ++ codes ")\n(:init\n" ++ six ++ last ++ codes ")\n(:goal (done)))\n") ≤ 16777216
     together names six last a b c = simp length-append (omega (arith, a, b, c))
+
+-- the texts of a kind, in a size that it is made in
+pub domain_text-short : (kind : Kind) → length (domain_text kind) ≤ 16777216
+domain_text-short Hop = omega arith
+domain_text-short Wide = omega arith
+
+pub problem_text-short : (kind : Kind) (n start : ℕ) → IsSize kind n → length (problem_text kind n start) ≤ 16777216
+problem_text-short Hop n start size = hop_problem-short n start size.0 size.1
+problem_text-short Wide n start size = wide_problem-short n size.1

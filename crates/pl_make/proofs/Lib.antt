@@ -1,2 +1,3 @@
 mod Numbers
-mod Lengths
+-- for the crates above: how long the texts are at most
+pub mod Lengths

@@ -8,6 +8,7 @@ use Rattle.pl_check.specs.declared.fault.FaultKind.{FaultKind}
 use Rattle.pl_check.specs.declared.fault.FaultKind.TheVariants as kind
 use Rattle.pl_check.specs.declared.role.FileRole.{FileRole}
 use Rattle.pl_check.specs.declared.role.FileRole.TheVariants.{Domain, Problem, Plan}
+use Rattle.pl_registry.specs.declared.ended.Stats.{Stats}
 use Rattle.pl_valid.specs.declared.verdict.Reason.{Reason}
 use Rattle.pl_valid.specs.declared.verdict.Reason.TheVariants.{UnknownAction, Arguments, UnknownObject, Inapplicable}
 use Rattle.pl_valid.specs.declared.verdict.Verdict.{Verdict}
@@ -44,6 +45,12 @@ step_text task step =
 abbrev pub plan_text : Task → List Instance → List ℕ
 plan_text task steps =
     flat_map (step_text task) steps ++ (codes "; length " ++ decimal (length steps) ++ codes "\n")
+
+-- what a search has counted, each count on a line
+abbrev pub stats_text : Stats → List ℕ
+stats_text stats =
+    in_turn (codes "; states " ∷ decimal stats.states ∷ codes "\n; expanded " ∷ decimal stats.expanded ∷
+    codes "\n; generated " ∷ decimal stats.generated ∷ codes "\n" ∷ [])
 
 -- how a file is called
 abbrev pub role_text : FileRole → List ℕ

@@ -1,8 +1,9 @@
 //! The texts, byte by byte.
 
-use crate::{Fault, put_fault, put_verdict};
+use crate::{Fault, put_fault, put_stats, put_verdict};
 use pl_check::{FaultKind, FileRole};
 use pl_io::MemSink;
+use pl_registry::Stats;
 use pl_valid::{Reason, Verdict};
 use std::alloc::{AllocError, Global};
 use std::test::Fail;
@@ -139,6 +140,34 @@ fn faults_have_their_lines(rt: HostRuntime) -> Result<(), Fail> {
         let mut sink = sink(rt.alloc())?;
         assert!(rt; put_fault(&mut sink, &fault).is_ok(), "{line}");
         assert!(rt; sink.written() == line.as_bytes(), "{line}");
+    }
+    Ok(())
+}
+
+#[test]
+fn counts_have_their_lines(rt: HostRuntime) -> Result<(), Fail> {
+    let cases: [(Stats, &str); 2] = [
+        (
+            Stats {
+                states: 1,
+                expanded: 0,
+                generated: 0,
+            },
+            "; states 1\n; expanded 0\n; generated 0\n",
+        ),
+        (
+            Stats {
+                states: 4294967294,
+                expanded: 120,
+                generated: 18446744073709551615,
+            },
+            "; states 4294967294\n; expanded 120\n; generated 18446744073709551615\n",
+        ),
+    ];
+    for (stats, text) in cases {
+        let mut sink = sink(rt.alloc())?;
+        assert!(rt; put_stats(&mut sink, &stats).is_ok(), "{text}");
+        assert!(rt; sink.written() == text.as_bytes(), "{text}");
     }
     Ok(())
 }
