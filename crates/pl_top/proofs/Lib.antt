@@ -1,5 +1,6 @@
 -- the words of a request
 mod RequestLemmas
+mod OptionLemmas
 -- options and results
 mod ResultLemmas
 -- what the reading of a request's files comes to
@@ -26,3 +27,18 @@ mod StartLemmas
 mod SuccessorsLemmas
 -- from what a listing did to how its run ends
 mod FinishLemmas
+-- how a search ended, and what is printed of that
+mod PlanLemmas
+mod PlanFileLemmas
+-- what an answer to `plan` says of the task
+mod PlannedLemmas
+mod SaysLemmas
+-- from breadth-first search to how a search ends
+mod SearchLemmas
+-- how many probes the parts of a run take
+mod WorkLemmas
+-- a made task: its words, its search, its summary, and how its run ends
+mod MakeWordLemmas
+mod MadeLemmas
+mod MadeRunLemmas
+mod MakingLemmas

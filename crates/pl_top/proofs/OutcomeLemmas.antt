@@ -8,9 +8,16 @@ use Rattle.pl_check.specs.Laws.{FirstFaultIsOne, TaskIsOne, HaveFirstFault, Have
 use Rattle.pl_check.specs.declared.role.FileRole.{FileRole}
 use Rattle.pl_check.specs.declared.role.FileRole.TheVariants.{Domain, Problem, Plan}
 use Rattle.pl_valid.specs.Verdict.{IsVerdict}
-use Rattle.pl_top.specs.Answer.{Outcome, Reading, Absent, Overlong, Whole, reading_of, GoesOn, IsRead, IsPlanRead, IsFaultOfPlan, IsVerdictOn, IsJudged, IsListed, cannot_read, too_long, bytes_of, faulty, verdict_outcome}
+use Rattle.pl_top.specs.Answer.{Outcome, Reading, IsMadeOutcome, Absent, Overlong, Whole, reading_of, GoesOn, IsRead, IsPlanRead, IsFaultOfPlan, IsVerdictOn, IsJudged, IsListed, IsPlanned, IsSearchOutcome, IsMadeOf, search_outcome, cannot_read, too_long, bytes_of, faulty, verdict_outcome}
 use Rattle.pl_top.specs.Laws.{OutcomeIsOne, OutcomeIsThere}
-use Rattle.pl_top.specs.Request.{Validate, Successors}
+use Rattle.pl_registry.specs.declared.search.Search.TheVariants as search
+use Rattle.pl_registry.specs.Ending.{IsEndingOf}
+use Rattle.pl_registry.proofs.SearchLaws.{endings_one, has_ending}
+use Rattle.pl_make.specs.Texts.{domain_text, problem_text}
+use Rattle.pl_make.proofs.Lengths.{domain_text-short, problem_text-short}
+use Rattle.pl_top.specs.Request.{PlanOptions, Validate, Successors, FindPlan, Make}
+use Rattle.pl_top.specs.Searching.{cut_none, limit_of, search_of}
+use Rattle.pl_top.proofs.MadeLemmas.{made_search_one, made_search_there}
 use Rattle.pl_top.proofs.ListedLemmas.{IsShort, listed_one, listed_there}
 use Rattle.pl_top.proofs.VerdictLemmas.{verdict_from, verdict_only, verdict_holds}
 
@@ -82,6 +89,47 @@ module _ (first_one : FirstFaultIsOne) (task_one : TaskIsOne) (excludes_task : F
       plan_judged k.task plan outcome other
       (subst (λ t. IsFaultOfPlan plan outcome ⊎ IsVerdictOn t plan outcome) same h.judged) k.judged
 
+  -- how a search of one task ends is one outcome
+  search_one : (task : Task) (options : PlanOptions) (outcome other : Outcome) → IsSearchOutcome task options outcome →
+      IsSearchOutcome task options other → outcome ≡ other
+  search_one task options outcome other h k =
+      let one = endings_one task (search_of options) (limit_of options) cut_none h.searched.of k.searched.of h.ending k.ending
+      h.stats k.stats h.searched.ends k.searched.ends in
+      h.comes ∙ ap (λ e. search_outcome task options e h.stats) one.1
+      ∙ ap (search_outcome task options k.ending) one.2 ∙ sym k.comes
+
+  -- the bytes of two files have one outcome
+  planned_one : (domain problem : List ℕ) (options : PlanOptions) (outcome other : Outcome) →
+      IsPlanned domain problem options outcome → IsPlanned domain problem options other → outcome ≡ other
+  planned_one domain problem options outcome other (inl h) (inl k) =
+      h.comes ∙
+      ap (λ found. faulty (bytes_of domain problem found.file) found)
+      (first_one domain problem h.found k.found h.is_first k.is_first) ∙
+      sym k.comes
+  planned_one domain problem options outcome other (inl h) (inr k) =
+      absurd (excludes_task domain problem h.found k.task h.is_first k.stated)
+  planned_one domain problem options outcome other (inr h) (inl k) =
+      absurd (excludes_task domain problem k.found h.task k.is_first h.stated)
+  planned_one domain problem options outcome other (inr h) (inr k) =
+      search_one k.task options outcome other
+      (subst (λ t. IsSearchOutcome t options outcome) (task_one domain problem h.task k.task h.stated k.stated) h.planned) k.planned
+
+  -- the texts of a made task have one outcome
+  made_one : (domain problem : List ℕ) (outcome other : Outcome) → IsMadeOf domain problem outcome →
+      IsMadeOf domain problem other → outcome ≡ other
+  made_one domain problem outcome other (inl h) (inl k) =
+      h.comes ∙
+      ap (λ found. faulty (bytes_of domain problem found.file) found)
+      (first_one domain problem h.found k.found h.is_first k.is_first) ∙
+      sym k.comes
+  made_one domain problem outcome other (inl h) (inr k) =
+      absurd (excludes_task domain problem h.found k.task h.is_first k.stated)
+  made_one domain problem outcome other (inr h) (inl k) =
+      absurd (excludes_task domain problem k.found h.task k.is_first h.stated)
+  made_one domain problem outcome other (inr h) (inr k) =
+      made_search_one k.task outcome other
+      (subst (λ t. IsMadeOutcome t outcome) (task_one domain problem h.task k.task h.stated k.stated) h.made) k.made
+
   pub outcome_one : OutcomeIsOne
   outcome_one (Validate domain problem plan) files place place' outcome other =
       read_one files place place' domain Domain outcome other _ _
@@ -95,6 +143,11 @@ module _ (first_one : FirstFaultIsOne) (task_one : TaskIsOne) (excludes_task : F
       (λ l. IsListed d p l options.past options.count other)
       (λ l. listed_one first_one task_one excludes_task plan_one lines_one excludes_lines d p l options.past
       options.count outcome other)))
+  outcome_one (FindPlan domain problem options) files place place' outcome other =
+      read_one files place place' domain Domain outcome other _ _
+      (λ d. read_one files place place' problem Problem outcome other _ _ (λ p. planned_one d p options outcome other))
+  outcome_one (Make kind n start) files place place' outcome other =
+      made_one (domain_text kind) (problem_text kind n start) outcome other
 
 -- ---- there is one
 
@@ -182,15 +235,62 @@ module _ (fault_or_task : FaultOrTask) (fault_or_lines : FaultOrLines) (excludes
       )
       by_files (inr has) = plan_there domain problem plan has lle
 
+  -- two files that are read whole give an outcome, where there is a search
+  planned_there : (domain problem : List ℕ) (options : PlanOptions) → length domain ≤ most_file_bytes →
+      length problem ≤ most_file_bytes → search_of options ≡ search.Bfs → 1 ≤ limit_of options →
+      (outcome : Outcome) × IsPlanned domain problem options outcome
+  planned_there domain problem options dle ple bfs some = by_files (fault_or_task domain problem dle ple)
+    where
+      by_files : HaveFirstFault domain problem ⊎ HaveTask domain problem → (outcome : Outcome) × IsPlanned domain problem options outcome
+      by_files (inl faulted) = (
+        faulty (bytes_of domain problem faulted.0.file) faulted.0,
+        inl (record { found = faulted.0; is_first = faulted.1; comes = refl }),
+      )
+      by_files (inr has) =
+          (let (of, ending, stats, ends) = has_ending has.0 cut_none (limit_of options) some in (
+            search_outcome has.0 options ending stats,
+            inr (record {
+              task = has.0;
+              stated = has.1;
+              planned = record {
+                ending = ending;
+                stats = stats;
+                searched = record {
+                  of = of;
+                  ends = subst (λ by. IsEndingOf has.0 cut_none by (limit_of options) of ending stats) (sym bfs) ends;
+                };
+                comes = refl;
+              };
+            }),
+          ))
+
+  -- the texts of a made task give an outcome
+  made_there : (domain problem : List ℕ) → length domain ≤ most_file_bytes → length problem ≤ most_file_bytes →
+      (outcome : Outcome) × IsMadeOf domain problem outcome
+  made_there domain problem dle ple = by_files (fault_or_task domain problem dle ple)
+    where
+      by_files : HaveFirstFault domain problem ⊎ HaveTask domain problem → (outcome : Outcome) × IsMadeOf domain problem outcome
+      by_files (inl faulted) = (
+        faulty (bytes_of domain problem faulted.0.file) faulted.0,
+        inl (record { found = faulted.0; is_first = faulted.1; comes = refl }),
+      )
+      by_files (inr has) =
+          (let found = made_search_there has.0 in (found.0, inr (record { task = has.0; stated = has.1; made = found.1 })))
+
   pub outcome_there : OutcomeIsThere
-  outcome_there (Validate domain problem plan) files place =
+  outcome_there (Validate domain problem plan) files place runs =
       read_there files place domain Domain _
       (λ d dle. read_there files place problem Problem _
       (λ p ple. read_there files place plan Plan _ (λ l lle. judged_there d p l dle ple lle)))
-  outcome_there (Successors domain problem options) files place =
+  outcome_there (Successors domain problem options) files place runs =
       read_there files place domain Domain _
       (λ d dle. read_there files place problem Problem _
       (λ p ple. plan_read_there files place options.after
       (λ outcome l. IsListed d p l options.past options.count outcome)
       (λ l lle. listed_there fault_or_lines excludes_lines lines_one fault_or_task d p l options.past
       options.count dle ple lle)))
+  outcome_there (FindPlan domain problem options) files place runs =
+      read_there files place domain Domain _
+      (λ d dle. read_there files place problem Problem _ (λ p ple. planned_there d p options dle ple runs.0 runs.1))
+  outcome_there (Make kind n start) files place runs =
+      made_there (domain_text kind) (problem_text kind n start) (domain_text-short kind) (problem_text-short kind n start runs)

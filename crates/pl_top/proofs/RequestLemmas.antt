@@ -38,14 +38,14 @@ validates words domain problem plan many q r s d e f =
     sym (ap validate_of are ∙ ap (λ t. cond t (Some (Validate domain problem plan)) None) tests)
 
 -- a word and those behind it, by its place
-at_place : (words : List (List ℕ)) (i next : ℕ) (w : List ℕ) → next ≡ i + 1 → slice_get words i ≡ Some w → drop i words ≡ w ∷ drop next words
+pub at_place : (words : List (List ℕ)) (i next : ℕ) (w : List ℕ) → next ≡ i + 1 → slice_get words i ≡ Some w → drop i words ≡ w ∷ drop next words
 at_place words i next w is h =
     drop_more words i w (slice_get_within words i w h)
     ∙ ap (λ (x : List ℕ). x ∷ drop (i + 1) words) (get_or_from_slice_get words i w w h)
     ∙ ap (λ (n : ℕ). w ∷ drop n words) (sym is)
 
 -- two words and those behind them
-two_places : (words : List (List ℕ)) (i : ℕ) (v w : List ℕ) → slice_get words i ≡ Some v → slice_get words (i + 1) ≡ Some w →
+pub two_places : (words : List (List ℕ)) (i : ℕ) (v w : List ℕ) → slice_get words i ≡ Some v → slice_get words (i + 1) ≡ Some w →
     drop i words ≡ v ∷ w ∷ drop (i + 2) words
 two_places words i v w first second =
     at_place words i (i + 1) v refl first

@@ -10,11 +10,15 @@ use Rattle.pl_top.specs.declared.refusal.Refusal.{Refusal}
 use Rattle.pl_top.specs.declared.refusal.Refusal.TheVariants as refused
 use Rattle.pl_check.specs.declared.role.FileRole.{FileRole}
 use Rattle.pl_check.specs.declared.role.FileRole.TheVariants.{Domain, Problem, Plan}
-use Rattle.pl_top.specs.Answer.{Outcome, Whole, Overlong, reading_of, GoesOn, IsRead, IsAnswer, IsJudged, IsListed, IsWorked, IsFaultOfAny, IsNoStep, IsPlanRead, verdict_outcome}
+use Rattle.pl_top.specs.Answer.{Outcome, Whole, Overlong, reading_of, GoesOn, IsRead, IsAnswer, IsJudged, IsListed, IsWorked, IsFaultOfAny, IsNoStep, IsPlanRead, IsPlanned, IsMade, IsMadeOf, verdict_outcome}
 use Rattle.pl_top.specs.Refusal.{outcome_of, HasBegun, IsForced, IsOfLast, IsRefused}
-use Rattle.pl_top.specs.Request.{Request, Validate, Successors}
+use Rattle.pl_make.specs.declared.kind.Kind.{Kind}
+use Rattle.pl_make.specs.Texts.{domain_text, problem_text}
+use Rattle.pl_top.specs.Request.{Request, PlanOptions, Validate, Successors, FindPlan, Make}
 use Rattle.pl_top.specs.Writing.{Writes}
-use Rattle.pl_top.specs.Run.{Ending, RunEnds, IsCause, AreFaultless, IsFaultlessPlan, IsStepOfStated, EndsWith, status_of, Answered, StoppedReading, StoppedWriting, OutOfMemory, IsPut, IsLinePut, IsStatusOf, IsComplete}
+use Rattle.pl_top.specs.Run.{Ending, RunEnds, IsCause, AreFaultless, AreSound, AreTold, IsFaultlessPlan, IsStepOfStated, EndsWith, status_of, Answered, StoppedReading, StoppedWriting, OutOfMemory, IsPut, IsLinePut, IsStatusOf, IsComplete}
+use Rattle.pl_top.proofs.PlannedLemmas.{ending_has_status}
+use Rattle.pl_top.proofs.MadeLemmas.{made_has_status}
 use Rattle.pl_task.specs.declared.plan.PlanLine.{PlanLine}
 use Rattle.pl_task.specs.declared.task.Task.{Task}
 use Rattle.pl_task.specs.Instance.{Instance}
@@ -175,11 +179,11 @@ written request shelf shelf' out out' err err' result count outcome begun answer
     (cut_off request shelf shelf' out out' err err' count outcome begun answer w.some w.cause w.front w.line)
 
 -- what is short reads as whole
-short_reading : (bytes : List ℕ) (t : Bool) → t ≡ true → cond t (Whole bytes) Overlong ≡ Whole bytes
+pub short_reading : (bytes : List ℕ) (t : Bool) → t ≡ true → cond t (Whole bytes) Overlong ≡ Whole bytes
 short_reading bytes t is = ap (λ b. cond b (Whole bytes) Overlong) is
 
 -- a told file that is short is read whole
-read_whole : (files : List NamedBytes) (place : ℕ) (name : List ℕ) (role : FileRole) (outcome : Outcome)
+pub read_whole : (files : List NamedBytes) (place : ℕ) (name : List ℕ) (role : FileRole) (outcome : Outcome)
     (Further : List ℕ → Type 0) (bytes : List ℕ) → content_of files name ≡ Some bytes
     → length bytes ≤ most_file_bytes
     → IsRead (Some files) place name role outcome Further → Further bytes
@@ -259,6 +263,22 @@ listed_status domain problem plan text count outcome no_input no_plan step (inr 
   ]
 ]
 
+-- files without a fault come to how a search of their task ends
+planned_status : (domain problem : List ℕ) (options : PlanOptions) (outcome : Outcome)
+    → ((found : InputFault) → IsFirstFault domain problem found → ⊥)
+    → IsPlanned domain problem options outcome → IsStatusOf (FindPlan domain problem options) outcome.status
+planned_status domain problem options outcome no_input (inl h) = absurd (no_input h.found h.is_first)
+planned_status domain problem options outcome no_input (inr h) =
+    subst (λ (o : Outcome). IsStatusOf (FindPlan domain problem options) o.status) (sym h.planned.comes)
+    (ending_has_status h.task options h.planned.ending h.planned.stats h.planned.searched)
+
+-- texts without a fault come to how a search of their task ends
+made_status : (kind : Kind) (n start : ℕ) (outcome : Outcome) → AreSound kind n start
+    → IsMadeOf (domain_text kind) (problem_text kind n start) outcome → IsStatusOf (Make kind n start) outcome.status
+made_status kind n start outcome sound (inl h) = absurd (sound h.found h.is_first)
+made_status kind n start outcome sound (inr h) =
+    made_has_status h.task h.made.ending h.made.stats outcome h.made.searched h.made.comes
+
 -- the answer to a request without a fault has one of its statuses
 answer_status : (request : Request) (files : List NamedBytes) (place : ℕ) (outcome : Outcome)
     → AreFaultless request files → IsAnswer request (Some files) place outcome
@@ -273,6 +293,22 @@ answer_status (Successors domain problem options) files place outcome s answer =
     let two = read_whole files place problem Problem outcome _ s.problem_bytes s.problem_told s.problem_short first in
     let plan = plan_known files place options.after outcome _ s.plan two in
     listed_status s.domain_bytes s.problem_bytes plan.0 options.past options.count outcome s.no_input_fault plan.1 s.past plan.2
+answer_status (FindPlan domain problem options) files place outcome s answer =
+    let first = read_whole files place domain Domain outcome _ s.domain_bytes s.domain_told s.domain_short answer in
+    let two = read_whole files place problem Problem outcome _ s.problem_bytes s.problem_told s.problem_short first in
+    planned_status s.domain_bytes s.problem_bytes options outcome s.no_input_fault two
+answer_status (Make kind n start) files place outcome s answer = made_status kind n start outcome s answer
+
+-- the answer to a request is that over the files that it is told
+over_told : (request : Request) (shelf : ShelfSeen) (files : List NamedBytes) (place : ℕ) (outcome : Outcome)
+    → AreTold request shelf files → IsAnswer request shelf.files place outcome → IsAnswer request (Some files) place outcome
+over_told (Validate domain problem plan) shelf files place outcome told answer =
+    subst (λ f. IsAnswer (Validate domain problem plan) f place outcome) told answer
+over_told (Successors domain problem options) shelf files place outcome told answer =
+    subst (λ f. IsAnswer (Successors domain problem options) f place outcome) told answer
+over_told (FindPlan domain problem options) shelf files place outcome told answer =
+    subst (λ f. IsAnswer (FindPlan domain problem options) f place outcome) told answer
+over_told (Make kind n start) shelf files place outcome told answer = answer
 
 -- without a fault a run has its answer, or memory ran out
 pub run_complete : (request : Request) (shelf shelf' : ShelfSeen) (out out' err err' : SinkSeen) (result : ℕ)
@@ -283,7 +319,7 @@ run_complete request shelf shelf' out out' err err' result h files told faultles
     by_ending : (ending : Ending) → IsCause request shelf shelf' out out' ending → result ≡ status_of ending
         → IsStatusOf request result ⊎ (result ≡ 8)
     by_ending (Answered outcome) cause status =
-        let answer = subst (λ f. IsAnswer request f shelf'.place outcome) told cause in
+        let answer = over_told request shelf files shelf'.place outcome told cause in
         inl (subst (IsStatusOf request) (sym status) (answer_status request files shelf'.place outcome faultless answer))
     by_ending (StoppedReading role) cause status = absurd (readable cause.0)
     by_ending (StoppedWriting outcome) cause status = absurd (writable cause.1)

@@ -22,7 +22,14 @@ use Rattle.pl_print.specs.Texts.{verdict_text, fault_text}
 use Rattle.pl_print.specs.declared.fault.Fault.{Fault}
 use Rattle.pl_print.specs.declared.fault.Fault.TheVariants as fault
 use Rattle.pl_top.specs.Listing.{successors_text}
-use Rattle.pl_top.specs.Request.{Request, Validate, Successors}
+use Rattle.pl_registry.specs.declared.ended.Stats.{Stats}
+use Rattle.pl_registry.specs.Ending.{Ending}
+use Rattle.pl_registry.specs.Ending.Ending.{Found, Unsolvable, Exhausted, Limit}
+use Rattle.pl_make.specs.declared.kind.Kind.{Kind}
+use Rattle.pl_make.specs.Texts.{domain_text, problem_text}
+use Rattle.pl_top.specs.Request.{Request, PlanOptions, Validate, Successors, FindPlan, Make, no_plan_options}
+use Rattle.pl_top.specs.Searching.{IsSearched, ending_status, search_text}
+use Rattle.pl_top.specs.Summary.{summary_text}
 
 -- what a run comes to: a status, a text for `out`, and a line for `err`
 pub record Outcome : Type 0 where
@@ -193,12 +200,75 @@ abbrev pub IsListed : List ℕ → List ℕ → Option (List ℕ) → Option (Li
 IsListed domain problem plan text count outcome =
     IsInputFault domain problem outcome ⊎ IsTaskListed domain problem plan text count outcome
 
+-- the status and the text of an ending
+abbrev pub search_outcome : Task → PlanOptions → Ending → Stats → Outcome
+search_outcome task options ending stats =
+    record { status = ending_status ending; text = search_text task options ending stats; line = [] }
+
+-- how the search of the task ends is the outcome
+pub record IsSearchOutcome (task : Task) (options : PlanOptions) (outcome : Outcome) : Type 0 where
+  pub ending : Ending
+  pub stats : Stats
+  pub searched : IsSearched task options ending stats
+  pub comes : outcome ≡ search_outcome task options ending stats
+
+-- domain and problem state a task, for which a plan is looked for
+pub record IsTaskPlanned (domain problem : List ℕ) (options : PlanOptions) (outcome : Outcome) : Type 0 where
+  pub task : Task
+  pub stated : AreStated domain problem task
+  pub planned : IsSearchOutcome task options outcome
+
+-- the outcome for the bytes of a domain and a problem, and for how a plan is looked for
+abbrev pub IsPlanned : List ℕ → List ℕ → PlanOptions → Outcome → Type 0
+IsPlanned domain problem options outcome =
+    IsInputFault domain problem outcome ⊎ IsTaskPlanned domain problem options outcome
+
+-- status 0, with the summary of a plan that was found
+abbrev pub summary_outcome : Task → List Instance → Stats → Verdict → Outcome
+summary_outcome task plan stats verdict =
+    record { status = 0; text = summary_text task plan stats verdict; line = [] }
+
+-- a plan that was found is judged, and the summary with the verdict is the outcome
+pub record IsSummed (task : Task) (plan : List Instance) (stats : Stats) (outcome : Outcome) : Type 0 where
+  pub verdict : Verdict
+  pub is_verdict : IsVerdict task (map line.Step plan) verdict
+  pub comes : outcome ≡ summary_outcome task plan stats verdict
+
+-- the outcome of an ending: a summary of a plan, and without a plan what `plan` comes to
+abbrev pub IsMadeEnd : Task → Ending → Stats → Outcome → Type 0
+IsMadeEnd task (Found plan) stats outcome = IsSummed task plan stats outcome
+IsMadeEnd task Unsolvable stats outcome = outcome ≡ search_outcome task no_plan_options Unsolvable stats
+IsMadeEnd task Exhausted stats outcome = outcome ≡ search_outcome task no_plan_options Exhausted stats
+IsMadeEnd task Limit stats outcome = outcome ≡ search_outcome task no_plan_options Limit stats
+
+-- how the search of a made task ends, by the search and the limit of `plan` without options, decides the outcome
+pub record IsMadeOutcome (task : Task) (outcome : Outcome) : Type 0 where
+  pub ending : Ending
+  pub stats : Stats
+  pub searched : IsSearched task no_plan_options ending stats
+  pub comes : IsMadeEnd task ending stats outcome
+
+-- the texts of domain and problem state a task, of which a plan is looked for
+pub record IsTaskMade (domain problem : List ℕ) (outcome : Outcome) : Type 0 where
+  pub task : Task
+  pub stated : AreStated domain problem task
+  pub made : IsMadeOutcome task outcome
+
+-- the outcome for the texts of a domain and a problem that were made
+abbrev pub IsMadeOf : List ℕ → List ℕ → Outcome → Type 0
+IsMadeOf domain problem outcome = IsInputFault domain problem outcome ⊎ IsTaskMade domain problem outcome
+
+-- the outcome for a kind, a size and a start
+abbrev pub IsMade : Kind → ℕ → ℕ → Outcome → Type 0
+IsMade kind n start outcome = IsMadeOf (domain_text kind) (problem_text kind n start) outcome
+
 -- the plan file is read where one is named, and then what it says is looked at
 abbrev pub IsPlanRead : Option (List NamedBytes) → ℕ → Option (List ℕ) → Outcome → (Option (List ℕ) → Type 0) → Type 0
 IsPlanRead files place None outcome Further = Further None
 IsPlanRead files place (Some name) outcome Further = IsRead files place name Plan outcome (λ bytes. Further (Some bytes))
 
--- the answer to a request: its files are read in this order, and the first that isn't read whole decides
+-- the answer to a request: its files are read in this order, and the first that isn't read whole decides; a task that is
+-- made needs no file
 abbrev pub IsAnswer : Request → Option (List NamedBytes) → ℕ → Outcome → Type 0
 IsAnswer (Validate domain problem plan) files place outcome =
     IsRead files place domain Domain outcome (λ d.
@@ -210,3 +280,8 @@ IsAnswer (Successors domain problem options) files place outcome =
     IsRead files place problem Problem outcome (λ p.
     IsPlanRead files place options.after outcome (λ l.
     IsListed d p l options.past options.count outcome)))
+IsAnswer (FindPlan domain problem options) files place outcome =
+    IsRead files place domain Domain outcome (λ d.
+    IsRead files place problem Problem outcome (λ p.
+    IsPlanned d p options outcome))
+IsAnswer (Make kind n start) files place outcome = IsMade kind n start outcome

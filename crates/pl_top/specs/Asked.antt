@@ -3,6 +3,11 @@ use Rattle.std.specs.Prelude.{ℕ, List, Option, Vec}
 use Rattle.std.specs.Global.{Global}
 use Rattle.std.specs.Option.{option_map}
 use denote.Ref.{Bor}
+use Rattle.pl_registry.specs.declared.search.Search.{Search}
+use Rattle.pl_registry.specs.declared.search.Search.TheVariants as search
+use Rattle.pl_top.specs.declared.plan_options.Kind.{Kind}
+use Rattle.pl_top.specs.declared.plan_options.Kind.TheVariants as kind
+use Rattle.pl_top.specs.declared.plan_options.PlanOptions.{PlanOptions}
 use Rattle.pl_top.specs.declared.request.Options.{Options as AskedOptions}
 use Rattle.pl_top.specs.declared.request.Request.{Request as Asked}
 use Rattle.pl_top.specs.declared.request.Request.TheVariants as asked
@@ -23,6 +28,19 @@ options_named options = record {
   count = options.count;
 }
 
+abbrev pub kind_named : Kind → Search
+kind_named kind.Bfs = search.Bfs
+
+abbrev pub plan_options_named : PlanOptions → words.PlanOptions
+plan_options_named options = record {
+  search = option_map kind_named options.search;
+  limit = options.limit;
+  stats = options.stats;
+}
+
 abbrev pub named : Asked → words.Request
 named (asked.Validate domain problem plan) = words.Validate domain.now problem.now plan.now
 named (asked.Successors domain problem options) = words.Successors domain.now problem.now (options_named options)
+named (asked.Make kind n start) = words.Make kind n start
+named (asked.Plan domain problem options) =
+    words.FindPlan domain.now problem.now (plan_options_named options)

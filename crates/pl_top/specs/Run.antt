@@ -12,7 +12,12 @@ use Rattle.pl_print.specs.Texts.{fault_text}
 use Rattle.pl_print.specs.declared.fault.Fault.TheVariants as fault
 use Rattle.pl_check.specs.declared.role.FileRole.{FileRole}
 use Rattle.pl_top.specs.Answer.{Outcome, IsAnswer}
-use Rattle.pl_top.specs.Request.{Request, Options, Validate, Successors, name_of, names_of, roles_of}
+use Rattle.pl_registry.specs.declared.search.Search.{Search}
+use Rattle.pl_registry.specs.declared.search.Search.TheVariants as search
+use Rattle.pl_make.specs.declared.kind.Kind.{Kind}
+use Rattle.pl_make.specs.Texts.{domain_text, problem_text}
+use Rattle.pl_top.specs.Request.{Request, Options, Validate, Successors, FindPlan, Make, name_of, names_of, roles_of}
+use Rattle.pl_top.specs.Searching.{search_of}
 
 -- how a run ends: with its answer, stopped as it read a file, stopped as it wrote its answer, or out of memory
 pub data Ending : Type 0 where
@@ -94,6 +99,8 @@ pub record RunEnds (request : Request) (shelf shelf' : ShelfSeen) (out out' err 
 abbrev pub IfProbeless : Request → Type 0 → Type 0
 IfProbeless (Validate domain problem plan) fact = fact
 IfProbeless (Successors domain problem options) fact = ⊤
+IfProbeless (FindPlan domain problem options) fact = ⊤
+IfProbeless (Make kind n start) fact = ⊤
 
 -- told files that are all there, are short enough, and have no fault
 pub record AreJudgeable (files : List NamedBytes) (domain problem plan : List ℕ) : Type 0 where
@@ -132,19 +139,53 @@ pub record AreListable (files : List NamedBytes) (domain problem : List ℕ) (op
   pub plan : IfSome options.after (IsFaultlessPlan files)
   pub past : IfSome options.past (IsStepOfStated domain_bytes problem_bytes)
 
--- the told files have nothing for which the request would be refused
+-- told files that are both there, are short enough, and have no fault
+pub record ArePlannable (files : List NamedBytes) (domain problem : List ℕ) : Type 0 where
+  pub domain_bytes : List ℕ
+  pub problem_bytes : List ℕ
+  pub domain_told : content_of files domain ≡ Some domain_bytes
+  pub problem_told : content_of files problem ≡ Some problem_bytes
+  pub domain_short : length domain_bytes ≤ most_file_bytes
+  pub problem_short : length problem_bytes ≤ most_file_bytes
+  pub no_input_fault : (found : InputFault) → IsFirstFault domain_bytes problem_bytes found → ⊥
+
+-- the texts of a made task have no fault
+abbrev pub AreSound : Kind → ℕ → ℕ → Type 0
+AreSound kind n start = (found : InputFault) → IsFirstFault (domain_text kind) (problem_text kind n start) found → ⊥
+
+-- the shelf tells these files; where nothing is read of it, it need not tell any
+abbrev pub AreTold : Request → ShelfSeen → List NamedBytes → Type 0
+AreTold (Validate domain problem plan) shelf files = shelf.files ≡ Some files
+AreTold (Successors domain problem options) shelf files = shelf.files ≡ Some files
+AreTold (FindPlan domain problem options) shelf files = shelf.files ≡ Some files
+AreTold (Make kind n start) shelf files = ⊤
+
+-- the told files, or the made texts, have nothing for which the request would be refused
 abbrev pub AreFaultless : Request → List NamedBytes → Type 0
 AreFaultless (Validate domain problem plan) files = AreJudgeable files domain problem plan
 AreFaultless (Successors domain problem options) files = AreListable files domain problem options
+AreFaultless (FindPlan domain problem options) files = ArePlannable files domain problem
+AreFaultless (Make kind n start) files = AreSound kind n start
+
+-- only width searches are exhausted
+abbrev pub IsWidthSearch : Search → Type 0
+IsWidthSearch search.Bfs = ⊥
+IsWidthSearch search.Gbfs = ⊥
+IsWidthSearch search.Iw1 = ⊤
+IsWidthSearch search.Iw2 = ⊤
 
 -- the statuses of a request that is not refused
 abbrev pub IsStatusOf : Request → ℕ → Type 0
 IsStatusOf (Validate domain problem plan) status = (status ≡ 0) ⊎ (status ≡ 1)
 IsStatusOf (Successors domain problem options) status = (status ≡ 0) ⊎ (status ≡ 1)
+IsStatusOf (FindPlan domain problem options) status =
+    (status ≡ 0) ⊎ (status ≡ 1) ⊎ (status ≡ 6) ⊎ (IsWidthSearch (search_of options) × (status ≡ 7))
+IsStatusOf (Make kind n start) status = (status ≡ 0) ⊎ (status ≡ 1) ⊎ (status ≡ 6)
 
--- where the files are told and without a fault, and neither the shelf nor `out` failed, a run has its answer or runs out of memory
+-- Where the files are told and without a fault, and neither the shelf nor `out` failed, a run has its answer or runs out of
+-- memory. A made task needs no file.
 abbrev pub IsComplete : Request → ShelfSeen → ShelfSeen → SinkSeen → SinkSeen → ℕ → Type 0
 IsComplete request shelf shelf' out out' result =
-    (files : List NamedBytes) → shelf.files ≡ Some files → AreFaultless request files →
+    (files : List NamedBytes) → AreTold request shelf files → AreFaultless request files →
     (Rose shelf.faults shelf'.faults → ⊥) → (Rose out.faults out'.faults → ⊥) →
     IsStatusOf request result ⊎ (result ≡ 8)

@@ -3,7 +3,10 @@ use Rattle.std.specs.Prelude.{ℕ, ◌≤◌, ◌^◌, List, length, All, IfSome
 use Rattle.pl_task.specs.States.{IsStep}
 use Rattle.pl_valid.specs.Verdict.{IsLineOf}
 use Rattle.pl_top.specs.declared.starting.Start.{Start}
-use Rattle.pl_top.specs.Answer.{Outcome, IsWorked, IsListed}
+use Rattle.pl_io.specs.Outside.{ShelfSeen}
+use Rattle.pl_check.specs.Stated.{AreStated}
+use Rattle.pl_top.specs.Answer.{Outcome, IsWorked, IsListed, AreLinesOfAny}
+use Rattle.pl_top.specs.Work.{IsTaskRead, AreLinesRead}
 
 -- the lines and the step are of the task, and the lines are few enough to be judged
 pub record IsReady (start : Start) : Type 0 where
@@ -19,3 +22,13 @@ IsWorkedAt start outcome = IsWorked start.task start.lines start.past start.coun
 abbrev pub IsStartOf : List ℕ → List ℕ → Option (List ℕ) → Option (List ℕ) → Option ℕ → Start → Type 0
 IsStartOf domain problem plan text count start =
     (outcome : Outcome) → IsWorkedAt start outcome → IsListed domain problem plan text count outcome
+
+-- the bytes of a domain and a problem state the task, and those of a plan, where they are given, have the lines
+pub record IsStartStated (domain problem : List ℕ) (plan : Option (List ℕ)) (start : Start) : Type 0 where
+  pub stated : AreStated domain problem start.task
+  pub are : AreLinesOfAny plan start.task start.lines
+
+-- the same of the files that were read
+pub record IsStartRead (domain problem : List ℕ) (after : Option (List ℕ)) (shelf shelf' : ShelfSeen) (start : Start) : Type 0 where
+  pub read : IsTaskRead domain problem shelf shelf' start.task
+  pub are : AreLinesRead after shelf start.task start.lines

@@ -1,6 +1,6 @@
 //! What outcomes have in common: each function here is without effect, and its contract is a law.
 
-ghost use Rattle.pl_top.specs.Laws.{OutcomeIsOne, OutcomeIsThere};
+ghost use Rattle.pl_top.specs.Laws.{OutcomeIsOne, OutcomeIsThere, RequestsCanRun};
 
 use pl_check::laws::{
     fault_or_lines, fault_or_task, first_fault_is_one, lines_are_one, plan_fault_is_one,
@@ -19,7 +19,12 @@ pub fn outcome_is_one()
     fault_or_lines();
 }
 
-/// Over told files a request has an outcome.
+/// Each request that words are can run: the search that it asks for is there, and can have its limit.
+pub fn requests_can_run()
+    ensures { RequestsCanRun }
+{}
+
+/// Over told files a request that can run has an outcome.
 pub fn outcome_is_there()
     ensures { OutcomeIsThere }
 {

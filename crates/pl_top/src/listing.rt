@@ -1,12 +1,13 @@
 //! Writes the list of the steps that are applicable in a state.
 
-ghost use Rattle.std.specs.Prelude.{◌≡◌, ◌++◌, [], All, IfErr, IfOk, IfSome, OnErr, OnOk};
+ghost use Rattle.std.specs.Prelude.{◌≡◌, ◌≤◌, ◌+◌, ◌++◌, [], All, IfErr, IfOk, IfSome, OnErr, OnOk};
 ghost use Rattle.std.specs.Io.KnownBytes.{Appends};
 ghost use Rattle.pl_io.specs.Blocks.{held_of};
 ghost use Rattle.pl_io.specs.Outside.{AppendsFront, HasCause};
 ghost use Rattle.pl_task.specs.States.{IsStep};
 ghost use Rattle.pl_state.specs.StateOf.{state_in, IsStateOf};
-ghost use Rattle.pl_gen.specs.Walks.{state_of_prepared};
+ghost use Rattle.pl_normal.specs.Measures.{probe_bound};
+ghost use Rattle.pl_gen.specs.Walks.{AreAcyclic, state_of_prepared, walk_reads};
 ghost use Rattle.pl_top.specs.Listing.{end_text, list_text, listed_steps, successors_text};
 ghost use Rattle.pl_top.specs.Putting as spec;
 ghost use Rattle.pl_top.specs.Putting.{IsListEnd, IsNextCut, IsNextPut};
@@ -50,6 +51,8 @@ pub fn put_list<O: Sink, L: Ledger>(
         OnOk result (Appends (O.seen out.old).written (O.seen out.new).written text) }
     ensures end { let text = successors_text task.now (state_in task.now state.now) (spec.lent past.entry) count in
         IfErr result (IsListEnd text (O.seen out.old) (O.seen out.new)) }
+    ensures work { OnOk result (AreAcyclic task.now →
+        steps.new ≤ steps.old + probe_bound task.now (state_in task.now state.now)) }
 {
     let normal = match normal(alloc, task) {
         Ok(normal) => normal,
@@ -81,6 +84,7 @@ fn walk_past<'p, L: Ledger>(
     requires past { IfSome past (λ step. IsStep _task.now step.now) }
     ensures left { result.left ≡ listed_steps _task.now (state_of_prepared prepared.now) (spec.lent past.entry) }
     ensures steps { All (IsStep _task.now) result.left }
+    ensures cost { steps.new + result.reads ≤ steps.old + walk_reads prepared.now }
 {
     steps_are_listed_in_order(_task);
     tests_decide(_task);
@@ -107,6 +111,7 @@ pub fn put_steps<O: Sink, L: Ledger>(
     ensures front { OnErr result (AppendsFront (O.seen out.old).written (O.seen out.new).written
         (list_text task.now count walk.old.left)) }
     ensures cause { HasCause (O.seen out.old).faults (O.seen out.new).faults result }
+    ensures cost { steps.new ≤ steps.old + walk.old.reads }
 {
     let mut count = count;
     while !is_spent(count) {
@@ -153,6 +158,7 @@ fn put_next<O: Sink, L: Ledger>(
     ensures cut { OnErr result (IsNextCut task.now walk.old.left
         (O.seen out.old).written (O.seen out.new).written (held_of blocks.old)) }
     ensures cause { HasCause (O.seen out.old).faults (O.seen out.new).faults result }
+    ensures cost { steps.new + walk.new.reads ≤ steps.old + walk.old.reads }
 {
     match walk.next(steps) {
         None => Ok(false),
@@ -175,6 +181,7 @@ fn put_end<O: Sink, L: Ledger>(
     ensures front { OnErr result (AppendsFront (O.seen out.old).written (O.seen out.new).written
         (held_of blocks.old ++ end_text walk.old.left)) }
     ensures cause { HasCause (O.seen out.old).faults (O.seen out.new).faults result }
+    ensures cost { steps.new ≤ steps.old + walk.old.reads }
 {
     match walk.next(steps) {
         None => put_last(blocks, out, b"; end\n"),

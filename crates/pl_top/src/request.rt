@@ -5,8 +5,11 @@ ghost use Rattle.std.specs.Option.{option_map};
 ghost use Rattle.pl_top.specs.Request as spec;
 ghost use Rattle.pl_top.specs.Asked.{named, options_named};
 
+use crate::make_request::make_of;
+use crate::plan_options::{PlanOptions, plan_options_of};
 use crate::words::Words;
 use itoa::Buffer;
+use pl_make::Kind;
 
 /// What a run is asked for, with the names of its files.
 #[derive(Clone, Copy, Debug)]
@@ -28,6 +31,24 @@ pub enum Request<'w> {
         problem: &'w str,
         /// Of which state, from which step on, and how many.
         options: Options<'w>,
+    },
+    /// Find a plan.
+    Plan {
+        /// The domain file.
+        domain: &'w str,
+        /// The problem file.
+        problem: &'w str,
+        /// By which search, with how many states at most, and what is printed.
+        options: PlanOptions,
+    },
+    /// Make a task and find a plan of it.
+    Make {
+        /// Of which kind it is.
+        kind: Kind,
+        /// In which size.
+        n: u32,
+        /// From what is drawn.
+        start: u64,
     },
 }
 
@@ -55,6 +76,12 @@ pub fn request_of(words: &Words) -> Option<Request<'_>>
     }
     if command == "successors" {
         return successors_of(words);
+    }
+    if command == "plan" {
+        return plan_of(words);
+    }
+    if command == "make" {
+        return make_of(words);
     }
     None
 }
@@ -95,6 +122,29 @@ fn successors_of(words: &Words) -> Option<Request<'_>>
     }
     let options = options_of(words)?;
     Some(Request::Successors {
+        domain,
+        problem,
+        options,
+    })
+}
+
+/// The request of the words after `plan`.
+fn plan_of(words: &Words) -> Option<Request<'_>>
+    requires { 0 < length words.now }
+    ensures { option_map named result ≡ spec.plan_of (drop 1 words.now) }
+{
+    if words.len() < 3 {
+        return None;
+    }
+    let (domain, problem) = (words.word(1), words.word(2));
+    if !is_file_name(domain) {
+        return None;
+    }
+    if !is_file_name(problem) {
+        return None;
+    }
+    let options = plan_options_of(words)?;
+    Some(Request::Plan {
         domain,
         problem,
         options,
@@ -185,7 +235,7 @@ fn with_count<'w>(options: Options<'w>, word: &str) -> Option<Options<'w>>
 }
 
 /// The number of which the word is the decimal text, without leading zeros.
-fn count(word: &str) -> Option<u32>
+pub fn count(word: &str) -> Option<u32>
     ensures { result ≡ spec.count_of word.now }
 {
     let Ok(number) = word.parse::<u32>() else {

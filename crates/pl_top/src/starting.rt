@@ -7,7 +7,7 @@ ghost use Rattle.pl_valid.specs.Verdict.{IsLineOf};
 ghost use Rattle.pl_top.specs.Answer.{AreLinesOfAny, IsFaultOfAny, IsListed, IsNoStep, IsStepOfText};
 ghost use Rattle.pl_top.specs.Asked.{bytes_in};
 ghost use Rattle.pl_top.specs.Refusal.{IsUnanswered};
-ghost use Rattle.pl_top.specs.Starting.{IsReady, IsStartOf};
+ghost use Rattle.pl_top.specs.Starting.{IsReady, IsStartOf, IsStartStated};
 
 use crate::refusal::Refusal;
 use crate::validating::{faulty, of_input};
@@ -42,6 +42,7 @@ pub fn start_of(
     requires plan { IfSome plan (λ bytes. length bytes.now ≤ most_file_bytes) }
     ensures start { IfOk result
         (IsStartOf domain.now problem.now (bytes_in plan.entry) (bytes_in past.entry) count) }
+    ensures stated { IfOk result (IsStartStated domain.now problem.now (bytes_in plan.entry)) }
     ensures ready { IfOk result IsReady }
     ensures refused { IfErr result (IsUnanswered
         (IsListed domain.now problem.now (bytes_in plan.entry) (bytes_in past.entry) count)) }

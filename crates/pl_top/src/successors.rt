@@ -1,14 +1,17 @@
 //! The command `successors`: lists the steps that are applicable in a state.
 
-ghost use Rattle.std.specs.Prelude.{◌≡◌, ◌≤◌, [], ◌∷◌, IfErr, IfOk, IfSome, length};
+ghost use Rattle.std.specs.Prelude.{◌≡◌, ◌≤◌, ◌+◌, [], ◌∷◌, IfErr, IfOk, IfSome, length};
 ghost use Rattle.pl_io.specs.Outside.{BegunThen, most_file_bytes};
 ghost use Rattle.pl_state.specs.StateOf.{state_in, IsStateOf};
+ghost use Rattle.pl_normal.specs.Measures.{probe_bound};
+ghost use Rattle.pl_gen.specs.Walks.{AreAcyclic};
 ghost use Rattle.pl_top.specs.Answer.{Outcome, IsAnswer, IsListed, list_outcome};
 ghost use Rattle.pl_top.specs.Asked.{bytes_in, items_in, options_named};
 ghost use Rattle.pl_top.specs.Refusal.{HasBegun, IsPlanUnread, IsPlanWhole, IsRefused, IsUnanswered, names_after};
 ghost use Rattle.pl_top.specs.Request as spec;
 ghost use Rattle.pl_top.specs.Run.{RunEnds};
-ghost use Rattle.pl_top.specs.Starting.{IsReady, IsStartOf, IsWorkedAt};
+ghost use Rattle.pl_top.specs.Starting.{IsReady, IsStartOf, IsStartRead, IsStartStated, IsWorkedAt};
+ghost use Rattle.pl_top.specs.Work.{IsListWithin, IsWalkWithin};
 ghost use Rattle.pl_top.specs.Writing.{Finishes};
 
 use crate::listing::{ListEnd, put_list};
@@ -36,9 +39,11 @@ pub fn successors<S: Shelf, O: Sink, E: Sink, L: Ledger>(
     err: &mut E,
     steps: &mut Steps<L>,
 ) -> u8
-    ensures { RunEnds (spec.Successors domain.now problem.now (options_named options.entry))
+    ensures ends { RunEnds (spec.Successors domain.now problem.now (options_named options.entry))
         (S.seen shelf.old) (S.seen shelf.new) (O.seen out.old) (O.seen out.new) (E.seen err.old) (E.seen err.new)
         result }
+    ensures work { result ≡ 0 → IsListWithin domain.now problem.now (options_named options.entry)
+        (S.seen shelf.old) (S.seen shelf.new) steps.old steps.new }
 {
     match started(alloc, domain, problem, options, shelf) {
         Ok(start) => finish(alloc, &start, out, err, steps),
@@ -57,6 +62,8 @@ fn started<S: Shelf>(
     ensures start { let request = spec.Successors domain.now problem.now (options_named options.entry) in
         IfOk result (λ start. (outcome : Outcome) → IsWorkedAt start outcome →
         IsAnswer request (S.seen shelf.old).files (S.seen shelf.new).place outcome) }
+    ensures read { IfOk result (IsStartRead domain.now problem.now (bytes_in options.entry.after)
+        (S.seen shelf.old) (S.seen shelf.new)) }
     ensures ready { IfOk result IsReady }
     ensures begun { let request = spec.Successors domain.now problem.now (options_named options.entry) in
         IfOk result (λ start. HasBegun request 3 (S.seen shelf.old) (S.seen shelf.new)) }
@@ -104,6 +111,7 @@ fn start_from(
     requires plan { IfSome plan.now (λ bytes. length bytes.items ≤ most_file_bytes) }
     ensures start { IfOk result
         (IsStartOf domain.now problem.now (items_in plan.now) (bytes_in past.entry) count) }
+    ensures stated { IfOk result (IsStartStated domain.now problem.now (items_in plan.now)) }
     ensures ready { IfOk result IsReady }
     ensures refused { IfErr result (IsUnanswered
         (IsListed domain.now problem.now (items_in plan.now) (bytes_in past.entry) count)) }
@@ -123,8 +131,9 @@ fn finish<O: Sink, E: Sink, L: Ledger>(
     steps: &mut Steps<L>,
 ) -> u8
     requires { IsReady start.now }
-    ensures { Finishes (IsWorkedAt start.now)
+    ensures ends { Finishes (IsWorkedAt start.now)
         (O.seen out.old) (O.seen out.new) (E.seen err.old) (E.seen err.new) result }
+    ensures work { result ≡ 0 → IsWalkWithin start.now.task start.now.lines steps.old steps.new }
 {
     match reached(alloc, &start.task, start.lines.as_slice()) {
         Ok(Destination::Refused(verdict)) => print_verdict(&verdict, out, err),
@@ -144,9 +153,11 @@ fn print_list<O: Sink, E: Sink, L: Ledger>(
 ) -> u8
     requires ready { IsReady start.now }
     requires state { IsStateOf start.now.task state.now }
-    ensures { Finishes (λ outcome. outcome ≡
+    ensures ends { Finishes (λ outcome. outcome ≡
         list_outcome start.now.task (state_in start.now.task state.now) start.now.past start.now.count)
         (O.seen out.old) (O.seen out.new) (E.seen err.old) (E.seen err.new) result }
+    ensures work { result ≡ 0 → AreAcyclic start.now.task →
+        steps.new ≤ steps.old + probe_bound start.now.task (state_in start.now.task state.now) }
 {
     match put_list(
         alloc,

@@ -291,9 +291,39 @@ const BAD_WORDS: &[&[&str]] = &[
     &["validate", "d", "--", "l"],
     &["validate", "d", "p", "--l"],
     &["Validate", "d", "p", "l"],
-    &["plan", "d", "p"],
+    &["plan", "d"],
+    &["plan", "--d", "p"],
+    &["plan", "d", "--p"],
+    &["plan", "d", "p", "l"],
+    &["plan", "d", "p", "--limit", "0"],
+    &["plan", "d", "p", "--limit", "01"],
+    &["plan", "d", "p", "--limit", "4294967295"],
+    &["plan", "d", "p", "--limit", "--stats"],
+    &["plan", "d", "p", "--limit"],
+    &["plan", "d", "p", "--limit", "5", "--limit", "5"],
+    &["plan", "d", "p", "--search"],
+    &["plan", "d", "p", "--search", "BFS"],
+    &["plan", "d", "p", "--search", "gbfs"],
+    &["plan", "d", "p", "--search", "bfs", "--search", "bfs"],
+    &["plan", "d", "p", "--stats", "--stats"],
+    &["plan", "d", "p", "--stats", "1"],
+    &["plan", "d", "p", "--count", "1"],
     &["successors", "d"],
-    &["make", "hop", "1", "0"],
+    &["make"],
+    &["make", "hop", "1"],
+    &["make", "hop", "1", "0", "0"],
+    &["make", "Hop", "1", "0"],
+    &["make", "--hop", "1", "0"],
+    &["make", "hop", "0", "0"],
+    &["make", "hop", "1001", "0"],
+    &["make", "wide", "0", "0"],
+    &["make", "wide", "101", "0"],
+    &["make", "hop", "01", "0"],
+    &["make", "hop", "1", "00"],
+    &["make", "hop", "1", "-1"],
+    &["make", "hop", "1", ""],
+    &["make", "hop", "1", "18446744073709551616"],
+    &["make", "hop", "1", "0", "--stats"],
     &["--help"],
     &["--version"],
 ];
@@ -504,6 +534,95 @@ const OUTSIDE: &[Case<'static>] = &[
         status: 5,
         out: "valid 2",
         err: "powerlift: cannot write\n",
+    },
+    Case {
+        words: &["plan", "d", "p"],
+        files: &[("d", HOP)],
+        failing_reads: &[],
+        failing_writes: &[],
+        failing_lines: &[],
+        piece: 7,
+        status: 4,
+        out: "",
+        err: "powerlift: cannot read problem\n",
+    },
+    Case {
+        words: &["plan", "d", "p"],
+        files: &[("d", "("), ("p", ROW)],
+        failing_reads: &[],
+        failing_writes: &[],
+        failing_lines: &[],
+        piece: 7,
+        status: 3,
+        out: "",
+        err: "powerlift: domain:1:1: unclosed bracket\n",
+    },
+    Case {
+        words: &["plan", "d", "p"],
+        files: SHELF,
+        failing_reads: &[4],
+        failing_writes: &[],
+        failing_lines: &[],
+        piece: 4096,
+        status: 4,
+        out: "",
+        err: "powerlift: cannot read problem\n",
+    },
+    Case {
+        words: &["make", "hop", "1", "0"],
+        files: &[],
+        failing_reads: &[1],
+        failing_writes: &[3],
+        failing_lines: &[],
+        piece: 4,
+        status: 5,
+        out: "objects ",
+        err: "powerlift: cannot write\n",
+    },
+    // The plan file isn't read.
+    Case {
+        words: &["plan", "d", "p"],
+        files: SHELF,
+        failing_reads: &[7],
+        failing_writes: &[],
+        failing_lines: &[],
+        piece: 4096,
+        status: 0,
+        out: "(hop a b)\n(hop b c)\n; length 2\n",
+        err: "",
+    },
+    Case {
+        words: &["plan", "d", "p"],
+        files: SHELF,
+        failing_reads: &[],
+        failing_writes: &[1],
+        failing_lines: &[],
+        piece: 4096,
+        status: 5,
+        out: "",
+        err: "powerlift: cannot write\n",
+    },
+    Case {
+        words: &["plan", "d", "p", "--stats"],
+        files: SHELF,
+        failing_reads: &[],
+        failing_writes: &[3],
+        failing_lines: &[],
+        piece: 4096,
+        status: 5,
+        out: "(hop",
+        err: "powerlift: cannot write\n",
+    },
+    Case {
+        words: &["plan", "d", "p", "--limit", "1"],
+        files: SHELF,
+        failing_reads: &[],
+        failing_writes: &[3],
+        failing_lines: &[2],
+        piece: 4,
+        status: 5,
+        out: "limit ",
+        err: "powe",
     },
     // A failure of `err` changes no status.
     Case {
@@ -1230,6 +1349,214 @@ fn steps_are_listed(rt: HostRuntime) -> Result<(), Fail> {
             status: *status,
             out,
             err,
+        };
+        let met = is_met::<Brand>(rt.alloc(), &case, Blank::new(1))?;
+        assert!(rt; met, "case {i}");
+    }
+    Ok(())
+}
+
+/// The row without its second link.
+const APART: &str = "(define (problem h) (:domain hop) (:objects a b c)
+ (:init (at a) (link a b)) (:goal (at c)))
+";
+
+/// The row, where the goal holds at once.
+const HOME: &str = "(define (problem h) (:domain hop) (:objects a b c)
+ (:init (at a) (link a b) (link b c)) (:goal (at a)))
+";
+
+/// The row, with a goal that no action can meet.
+const UNLINKED: &str = "(define (problem h) (:domain hop) (:objects a b c)
+ (:init (at a) (link a b) (link b c)) (:goal (link a c)))
+";
+
+/// The same domain, for links that don't lead back.
+const ONE_WAY: &str = "(define (domain hop)
+ (:predicates (at ?x) (link ?x ?y))
+ (:action hop :parameters (?x ?y)
+  :precondition (and (at ?x) (link ?x ?y) (not (link ?y ?x)))
+  :effect (and (not (at ?x)) (at ?y))))
+";
+
+/// Three atoms, each made by an action without a condition.
+const MAKERS: &str = "(define (domain makers) (:predicates (p) (q) (r))
+ (:action mk-p :parameters () :effect (p))
+ (:action mk-q :parameters () :effect (q))
+ (:action mk-r :parameters () :effect (r)))
+";
+
+/// All three are wanted.
+const MADE: &str = "(define (problem m) (:domain makers) (:init) (:goal (and (p) (q) (r))))
+";
+
+/// The plan that leads along the row, as it is printed.
+const ALONG_PRINTED: &str = "(hop a b)\n(hop b c)\n; length 2\n";
+
+/// A domain, a problem and the options of `plan`, and then the status and the text.
+type Planned = (
+    &'static str,
+    &'static str,
+    &'static [&'static str],
+    u8,
+    &'static str,
+);
+
+const PLANNED: &[Planned] = &[
+    (HOP, ROW, &["plan", "d", "p"], 0, ALONG_PRINTED),
+    (
+        HOP,
+        ROW,
+        &["plan", "d", "p", "--search", "bfs"],
+        0,
+        ALONG_PRINTED,
+    ),
+    (
+        HOP,
+        ROW,
+        &["plan", "d", "p", "--stats"],
+        0,
+        "(hop a b)\n(hop b c)\n; length 2\n; states 2\n; expanded 2\n; generated 2\n",
+    ),
+    (
+        HOP,
+        ROW,
+        &["plan", "d", "p", "--limit", "2"],
+        0,
+        ALONG_PRINTED,
+    ),
+    (
+        HOP,
+        ROW,
+        &["plan", "d", "p", "--limit", "4294967294"],
+        0,
+        ALONG_PRINTED,
+    ),
+    (
+        HOP,
+        ROW,
+        &[
+            "plan", "d", "p", "--stats", "--limit", "1", "--search", "bfs",
+        ],
+        6,
+        "limit 1\n; states 1\n; expanded 1\n; generated 1\n",
+    ),
+    (
+        HOP,
+        HOME,
+        &["plan", "d", "p", "--stats"],
+        0,
+        "; length 0\n; states 1\n; expanded 0\n; generated 0\n",
+    ),
+    (HOP, APART, &["plan", "d", "p"], 1, "unsolvable\n"),
+    (
+        HOP,
+        APART,
+        &["plan", "d", "p", "--limit", "2"],
+        1,
+        "unsolvable\n",
+    ),
+    (
+        HOP,
+        APART,
+        &["plan", "d", "p", "--limit", "2", "--stats"],
+        1,
+        "unsolvable\n; states 2\n; expanded 2\n; generated 1\n",
+    ),
+    (
+        HOP,
+        APART,
+        &["plan", "d", "p", "--limit", "1"],
+        6,
+        "limit 1\n",
+    ),
+    (
+        HOP,
+        UNLINKED,
+        &["plan", "d", "p", "--limit", "1"],
+        6,
+        "limit 1\n",
+    ),
+    (HOP, UNLINKED, &["plan", "d", "p"], 1, "unsolvable\n"),
+    (ONE_WAY, ROW, &["plan", "d", "p"], 0, ALONG_PRINTED),
+    (
+        MAKERS,
+        MADE,
+        &["plan", "d", "p", "--search", "bfs", "--stats"],
+        0,
+        "(mk-p)\n(mk-q)\n(mk-r)\n; length 3\n; states 7\n; expanded 5\n; generated 15\n",
+    ),
+    (
+        SWITCHES,
+        READY,
+        &["plan", "d", "p"],
+        0,
+        "(push)\n; length 1\n",
+    ),
+];
+
+#[test]
+fn plans_are_found(rt: HostRuntime) -> Result<(), Fail> {
+    for (i, (domain, problem, words, status, out)) in PLANNED.iter().enumerate() {
+        let case = Case {
+            words,
+            files: &three(domain, problem, ""),
+            failing_reads: &[],
+            failing_writes: &[],
+            failing_lines: &[],
+            piece: 7,
+            status: *status,
+            out,
+            err: "",
+        };
+        let met = is_met::<Brand>(rt.alloc(), &case, Blank::new(1))?;
+        assert!(rt; met, "case {i}");
+    }
+    Ok(())
+}
+
+/// The words of `make`, and the text for them.
+type Summary = (&'static [&'static str], &'static str);
+
+const SUMMARIES: &[Summary] = &[
+    (
+        &["make", "hop", "1", "0"],
+        "objects 1\natoms 2\nlength 0\nstates 1\nexpanded 0\ngenerated 0\nvalid 0\n",
+    ),
+    // The link that is drawn is the one to the next place, and counts once.
+    (
+        &["make", "hop", "2", "0"],
+        "objects 2\natoms 3\nlength 1\nstates 1\nexpanded 1\ngenerated 1\nvalid 1\n",
+    ),
+    (
+        &["make", "wide", "1", "0"],
+        "objects 16\natoms 14\nlength 1\nstates 1\nexpanded 1\ngenerated 1\nvalid 1\n",
+    ),
+    // What is drawn from decides nothing of the wide join.
+    (
+        &["make", "wide", "1", "18446744073709551615"],
+        "objects 16\natoms 14\nlength 1\nstates 1\nexpanded 1\ngenerated 1\nvalid 1\n",
+    ),
+    (
+        &["make", "wide", "24", "0"],
+        "objects 200\natoms 4039\nlength 1\nstates 1\nexpanded 1\ngenerated 1\nvalid 1\n",
+    ),
+];
+
+#[test]
+fn made_tasks_are_solved(rt: HostRuntime) -> Result<(), Fail> {
+    for (i, (words, out)) in SUMMARIES.iter().enumerate() {
+        // Each call of the shelf would fail.
+        let case = Case {
+            words,
+            files: &[],
+            failing_reads: &[1],
+            failing_writes: &[],
+            failing_lines: &[],
+            piece: 7,
+            status: 0,
+            out,
+            err: "",
         };
         let met = is_met::<Brand>(rt.alloc(), &case, Blank::new(1))?;
         assert!(rt; met, "case {i}");

@@ -11,6 +11,7 @@ loop-count-init g c =
       steps = c.requires.left;
       so_far = begun (list_text c.args.task.now c.args.count c.args.walk.now.left) (held_of c.args.blocks.now) _ c.requires.none_held;
       later = omega arith;
+      cost = omega arith;
     }
 
 pub returns-in_err-given-clause-front : goal.returns-in_err-given-clause-front
@@ -39,6 +40,7 @@ loop-count-preserved g c =
           so_far.so_far c.one_less-count.result c.in_ok-given.given c.one_less-count.ensures given c.loop-count-test.ensures
           c.in_ok-given.ensures.put;
       later = omega (arith, so_far.later, c.put_next.ensures.cause.later);
+      cost = (let before = so_far.cost in let turn = c.put_next.ensures.cost in omega (arith, before, turn));
     }
 
 pub returns-clause-front : goal.returns-clause-front

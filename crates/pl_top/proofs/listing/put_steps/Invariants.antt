@@ -1,4 +1,4 @@
-use Rattle.std.proofs.Common.{◌≤◌, ◌++◌, All, length}
+use Rattle.std.proofs.Common.{◌≤◌, ◌+◌, ◌++◌, All, length}
 use Rattle.pl_io.specs.Blocks.{held_of}
 use Rattle.pl_task.specs.States.{IsStep}
 use Rattle.pl_top.specs.Listing.{list_text}
@@ -13,6 +13,7 @@ invariant-loop-count g l =
       so_far : IsSoFar (list_text l.task l.initial.count l.initial.walk.left) (held_of l.blocks ++ list_text l.task l.count l.walk.left)
           (g.O.Sink.seen l.initial.out).written (g.O.Sink.seen l.out).written;
       later : (g.O.Sink.seen l.initial.out).faults ≤ (g.O.Sink.seen l.out).faults;
+      cost : l.steps + l.walk.reads ≤ l.fn.steps + l.initial.walk.reads;
     }
 
 abbrev pub decreases-loop-count : goal.decreases-loop-count

@@ -18,3 +18,6 @@ pub returns-in-Err-clause-refused : goal.returns-in-Err-clause-refused
 returns-in-Err-clause-refused c =
     plan_refused c.args.domain.now c.args.problem.now (bytes_in c.args.plan) (bytes_in c.args.past) c.args.count c.in-Ok.task
     c.in-Err.refusal c.in-Ok.ensures.task c.in-Err.ensures.refused
+
+pub returns-in-Ok-past_step-clause-stated : goal.returns-in-Ok-past_step-clause-stated
+returns-in-Ok-past_step-clause-stated c = record { stated = c.in-Ok.ensures.task; are = c.in-Ok-lines_of.ensures.lines }

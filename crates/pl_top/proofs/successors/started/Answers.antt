@@ -3,6 +3,8 @@ use Rattle.std.proofs.lemmas.Result.{err_from_is_err_and, IfOk-weaker, IfErr-wea
 use Rattle.pl_top.specs.Answer.{IsListed}
 use Rattle.pl_top.specs.Asked.{bytes_in, items_in}
 use Rattle.pl_top.specs.Refusal.{IsUnanswered}
+use Rattle.pl_top.specs.Starting.{IsStartStated}
+use Rattle.pl_top.proofs.WorkLemmas.{start_read}
 use Rattle.pl_top.proofs.ResultLemmas.{if_err, along}
 use Rattle.pl_top.proofs.ValidateLemmas.{moved}
 use Rattle.pl_top.proofs.SuccessorsLemmas.{moved_plan, after_domain, after_problem, after_plan, whole_files, no_domain, no_problem, no_plan, no_list}
@@ -114,3 +116,19 @@ returns-clause-refused g c =
     (along (λ d p l. IsUnanswered (IsListed d p (items_in c.in_ok-plan.plan) (bytes_in c.args.options.past) c.args.options.count) refusal)
     _ _ _ _ [] [] c.deref.ensures.value c.deref-2.ensures.value refl h))
     c.start_from.ensures.refused
+
+pub returns-clause-read : goal.returns-clause-read
+returns-clause-read g c =
+    let shelf = g.S.Shelf.seen c.args.shelf.now in
+    let third = g.S.Shelf.seen c.read_plan_file.new.shelf in
+    let one = c.in_ok-domain.ensures in
+    let two = c.in_ok-problem.ensures in
+    let three = c.in_ok-plan.ensures in
+    IfOk-weaker c.start_from.result _ _
+    (λ start h. start_read c.args.domain.now c.args.problem.now (bytes_in c.args.options.after) shelf third _ _
+    (items_in c.in_ok-plan.plan) start
+    (one.whole third.place) (moved shelf.files _ _ _ one.files two.whole third.place)
+    (moved_plan shelf.files _ _ _ (two.files ∙ one.files) three.whole)
+    (along (λ d p l. IsStartStated d p (items_in c.in_ok-plan.plan) start)
+    _ _ _ _ [] [] c.deref.ensures.value c.deref-2.ensures.value refl h))
+    c.start_from.ensures.stated

@@ -1,0 +1,143 @@
+-- How many probes the parts of a run take.
+use Rattle.std.proofs.Common.{◌≡◌, ℕ, ◌≤◌, ◌+◌, Bool, true, List, Option, Result, Ok, Err, IfOk, Bor, inl, inr, sym, ap, subst, arith}
+use Rattle.std.specs.Fn.{FnReturnsAt}
+use denote.Param.Members.{Shared}
+use Rattle.pl_io.specs.Outside.{ShelfSeen}
+use Rattle.pl_io.specs.Outside.{SinkSeen}
+use Rattle.pl_check.specs.Stated.{AreStated}
+use Rattle.pl_task.specs.declared.plan.PlanLine.{PlanLine}
+use Rattle.pl_task.specs.declared.task.Task.{Task}
+use Rattle.pl_task.specs.States.{State}
+use Rattle.pl_valid.specs.declared.verdict.Verdict.{Verdict}
+use Rattle.pl_print.specs.Texts.{verdict_text}
+use Rattle.pl_normal.specs.Measures.{probe_bound}
+use Rattle.pl_state.specs.StateOf.{state_in}
+use Rattle.pl_gen.specs.Walks.{AreAcyclic, PreparedState, walk_reads}
+use Rattle.pl_registry.specs.declared.ended.Ended.{Ended}
+use Rattle.pl_registry.specs.declared.search.Search.{Search}
+use Rattle.pl_registry.specs.declared.search.Search.TheVariants as search
+use Rattle.pl_registry.specs.Ending.{ending_of}
+use Rattle.pl_registry.specs.Registered.{Register}
+use Rattle.pl_bfs.specs.Breadth.{IsBreadth, search_bound}
+use Rattle.pl_top.specs.declared.plan_options.PlanOptions.{PlanOptions as AskedOptions}
+use Rattle.pl_top.specs.declared.refusal.Refusal.{Refusal}
+use Rattle.pl_top.specs.declared.refusal.Refusal.TheVariants.{CannotRead, TooLong, Input, NotAStep, Memory}
+use Rattle.pl_top.specs.declared.starting.Start.{Start}
+use Rattle.pl_top.specs.Answer.{Whole, IsReadingOf, verdict_status}
+use Rattle.pl_top.specs.Asked.{plan_options_named}
+use Rattle.pl_top.specs.Planning.{IsOfTask}
+use Rattle.pl_top.specs.Reaching.{AreExecuted, IsRefusedBy}
+use Rattle.pl_top.specs.Refusal.{status_of, IsPlanWhole}
+use Rattle.pl_top.specs.Request.{Options, PlanOptions}
+use Rattle.pl_top.specs.Searching.{limit_of, limit_or_default, search_of}
+use Rattle.pl_top.specs.Starting.{IsStartRead, IsStartStated}
+use Rattle.pl_top.specs.Work.{IsTaskRead, IsSearchWithin, IsPlanWithin, IsMadeWithin, IsWalkWithin, IsListWithin}
+use Rattle.pl_top.specs.Writing.{Writes}
+use Rattle.pl_make.specs.declared.kind.Kind.{Kind}
+use Rattle.pl_make.specs.Texts.{domain_text, problem_text}
+use Rattle.pl_top.proofs.PlanLemmas.{only_bfs}
+use Rattle.pl_top.proofs.MadeRunLemmas.{says_nothing}
+use Rattle.pl_top.proofs.SearchLemmas.{breadth_ends}
+
+-- a refusal says nothing of the task
+pub refused_nothing : (why : Refusal) (result : ℕ) → result ≡ status_of why → IsOfTask result → ⊥
+refused_nothing (CannotRead role) result is says = says_nothing result 4 is (λ e. cc e) (λ e. cc e) (λ e. cc e) says
+refused_nothing (TooLong role) result is says = says_nothing result 3 is (λ e. cc e) (λ e. cc e) (λ e. cc e) says
+refused_nothing (Input file line column kind) result is says = says_nothing result 3 is (λ e. cc e) (λ e. cc e) (λ e. cc e) says
+refused_nothing NotAStep result is says = says_nothing result 2 is (λ e. cc e) (λ e. cc e) (λ e. cc e) says
+refused_nothing (Memory error) result is says = says_nothing result 8 is (λ e. cc e) (λ e. cc e) (λ e. cc e) says
+
+pub memory_nothing : (result : ℕ) → result ≡ 8 → IsOfTask result → ⊥
+memory_nothing result is says = says_nothing result 8 is (λ e. cc e) (λ e. cc e) (λ e. cc e) says
+
+pub memory_no_list : (result : ℕ) → result ≡ 8 → result ≡ 0 → ⊥
+memory_no_list result is zero = cc (is, zero)
+
+-- and it isn't a list
+pub refused_no_list : (why : Refusal) (result : ℕ) → result ≡ status_of why → result ≡ 0 → ⊥
+refused_no_list (CannotRead role) result is zero = cc (is, zero)
+refused_no_list (TooLong role) result is zero = cc (is, zero)
+refused_no_list (Input file line column kind) result is zero = cc (is, zero)
+refused_no_list NotAStep result is zero = cc (is, zero)
+refused_no_list (Memory error) result is zero = cc (is, zero)
+
+pub task_read : (domain problem : List ℕ) (shelf shelf' : ShelfSeen) (d p : List ℕ) (task : Task) →
+    IsReadingOf shelf.files shelf'.place domain (Whole d) → IsReadingOf shelf.files shelf'.place problem (Whole p) →
+    AreStated d p task → IsTaskRead domain problem shelf shelf' task
+task_read domain problem shelf shelf' d p task first second stated = record {
+  domain_bytes = d;
+  problem_bytes = p;
+  domain_read = first;
+  problem_read = second;
+  stated = stated;
+}
+
+-- a breadth-first search whose closure never says yes is the search that cuts no state
+pub search_within : {F E : Type 0} (calls : Shared F (Bor (List ℕ) × Unit {0}) Bool) (task over : Task) (cut : F) (limit : ℕ)
+    (old new : Register) (before after : ℕ) → over ≡ task → old.limit ≡ limit
+    → ((words : List ℕ) → FnReturnsAt calls cut words true → ⊥)
+    → (result : Result Ended E) → IfOk result (IsBreadth calls over cut old new)
+    → IfOk result (λ ended. AreAcyclic over → (h : IsBreadth calls over cut old new ended) → after ≤ before + search_bound over h.of)
+    → IfOk result (λ ended. IsSearchWithin task search.Bfs limit before after)
+search_within calls task over cut limit old new before after same fits never (Ok ended) h cost = record {
+  ending = ending_of ended.outcome;
+  stats = ended.stats;
+  of = h.of;
+  ends = breadth_ends calls task over cut limit old new ended same fits never h;
+  cost = subst (λ (t : Task). AreAcyclic t → after ≤ before + search_bound t h.of) same (λ acyclic. cost acyclic h);
+}
+search_within calls task over cut limit old new before after same fits never (Err e) h cost = tt
+
+-- it is the search that the options name
+pub search_named : (task : Task) (options : AskedOptions) (limit before after : ℕ) → limit ≡ limit_or_default options.limit →
+    IsSearchWithin task search.Bfs limit before after →
+    IsSearchWithin task (search_of (plan_options_named options)) (limit_of (plan_options_named options)) before after
+search_named task options limit before after is h =
+    subst (λ (by : Search). IsSearchWithin task by (limit_or_default options.limit) before after) (sym (only_bfs options.search))
+    (subst (λ l. IsSearchWithin task search.Bfs l before after) is h)
+
+pub plan_within : (domain problem : List ℕ) (options : PlanOptions) (shelf shelf' : ShelfSeen) (before after : ℕ) (task : Task) →
+    IsTaskRead domain problem shelf shelf' task → IsSearchWithin task (search_of options) (limit_of options) before after →
+    IsPlanWithin domain problem options shelf shelf' before after
+plan_within domain problem options shelf shelf' before after task read search = record { task = task; read = read; search = search }
+
+pub made_within : (kind : Kind) (n start before after : ℕ) (task : Task) → AreStated (domain_text kind) (problem_text kind n start) task →
+    IsSearchWithin task search.Bfs 1000000 before after → IsMadeWithin kind n start before after
+made_within kind n start before after task stated search = record { task = task; stated = stated; search = search }
+
+-- a verdict that refuses a line is no list
+pub refused_line : (task : Task) (lines : List PlanLine) (verdict : Verdict) (out out' err err' : SinkSeen) (result : ℕ) →
+    IsRefusedBy task lines verdict → Writes (verdict_text verdict) (verdict_status verdict) out out' err err' result → result ≡ 0 → ⊥
+refused_line task lines verdict out out' err err' result h (inl whole) zero =
+    let is = ap verdict_status h.is in
+    let status = whole.status_is in cc (is, status, zero)
+refused_line task lines verdict out out' err err' result h (inr cut) zero = (let status = cut.status_is in cc (status, zero))
+
+-- the lines lead to a state, whose walk takes no more than its bound
+pub walk_within : (task : Task) (lines slice : List PlanLine) (state : State) (before after : ℕ) → slice ≡ lines →
+    AreExecuted task slice state → (AreAcyclic task → after ≤ before + probe_bound task state) → IsWalkWithin task lines before after
+walk_within task lines slice state before after same h cost =
+    record { state = state; executed = subst (λ (ls : List PlanLine). AreExecuted task ls state) same h; cost = cost }
+
+pub start_read : (domain problem : List ℕ) (named : Option (List ℕ)) (shelf shelf' : ShelfSeen) (d p : List ℕ) (l : Option (List ℕ)) (start : Start) →
+    IsReadingOf shelf.files shelf'.place domain (Whole d) → IsReadingOf shelf.files shelf'.place problem (Whole p) →
+    IsPlanWhole named shelf.files l → IsStartStated d p l start → IsStartRead domain problem named shelf shelf' start
+start_read domain problem named shelf shelf' d p l start first second third h = record {
+  read = task_read domain problem shelf shelf' d p start.task first second h.stated;
+  are = record { plan = l; whole = third; are = h.are };
+}
+
+pub list_within : (domain problem : List ℕ) (options : Options) (shelf shelf' : ShelfSeen) (before after : ℕ) (start : Start) →
+    IsStartRead domain problem options.after shelf shelf' start → IsWalkWithin start.task start.lines before after →
+    IsListWithin domain problem options shelf shelf' before after
+list_within domain problem options shelf shelf' before after start read walk =
+    record { task = start.task; read = read.read; lines = start.lines; are = read.are; walk = walk }
+
+-- preparing a state and walking over its steps take no more than its bound
+pub list_cost : (task over : Task) (prepared : PreparedState) (words : List ℕ) (start mid late after reads : ℕ) → over ≡ task →
+    (AreAcyclic over → mid + walk_reads prepared ≤ start + probe_bound over (state_in over words)) →
+    late + reads ≤ mid + walk_reads prepared → after ≤ late + reads → AreAcyclic task → after ≤ start + probe_bound task (state_in task words)
+list_cost task over prepared words start mid late after reads same cost begun walked acyclic =
+    let first : mid + walk_reads prepared ≤ start + probe_bound task (state_in task words) =
+    subst (λ (t : Task). AreAcyclic t → mid + walk_reads prepared ≤ start + probe_bound t (state_in t words)) same cost acyclic in
+    omega (arith, first, begun, walked)
