@@ -4,8 +4,12 @@ use Rattle.std.specs.Prelude.{IfOk, IfErr}
 use Rattle.std.specs.List.{flat_map, filter_map}
 use Rattle.std.proofs.lemmas.List.{length-map}
 use Rattle.pl_task.specs.declared.data.Atom.{Atom}
+use Rattle.pl_task.specs.declared.data.GoalLiteral.{GoalLiteral}
 use Rattle.pl_task.specs.declared.data.Literal.{Literal}
+use Rattle.pl_task.specs.declared.data.ObjectDef.{ObjectDef}
+use Rattle.pl_task.specs.declared.data.PredicateDef.{PredicateDef}
 use Rattle.pl_task.specs.declared.data.Schema.{Schema}
+use Rattle.pl_task.specs.declared.data.TypeDef.{TypeDef}
 use Rattle.pl_task.specs.declared.task.Task.{Task}
 use Rattle.pl_text.specs.declared.form.Form.{Form}
 use Rattle.pl_text.specs.Trees.{Tree, Trees, trees_of, members, LieBetween}
@@ -26,7 +30,7 @@ use Rattle.pl_check.specs.Files.{file_faults}
 use Rattle.pl_check.specs.FirstFault.{in_file, first_of, AreRead, EndsBy, known_in, faults_of}
 use Rattle.pl_check.specs.Known.{Known, known_of, sections, sections_of, all_after}
 use Rattle.pl_check.specs.Literals.{literals_of, ground_atom, wanted}
-use Rattle.pl_check.specs.Made.{stated_types, stated_objects, AreParts}
+use Rattle.pl_check.specs.Made.{stated_types, stated_objects, AreParts, IsOfParts}
 use Rattle.pl_check.specs.Reading.{Refuses, HasFew, check_end_of, EndsReading}
 use Rattle.pl_check.specs.Sections.{problem_scope}
 use Rattle.pl_check.specs.Stated.{StatesTask, AreStated, stated_schema, predicates_from, once}
@@ -176,6 +180,38 @@ parts_ok domain problem ds ps in_domain in_problem known schemas init goal dle p
     (stated_objects domain (sections (trees ds)) problem (sections (trees ps)) n)
     (predicates_from schemas 0 n.predicates n.arities) schemas (once init) (filter_map wanted goal))
     (sym same) made))
+
+-- the same for lists that are those of the sections
+pub listed_parts : (types types_in : List TypeDef) (objects objects_in : List ObjectDef) (predicates : List PredicateDef)
+    (schemas : List Schema) (init : List Atom) (goal : List GoalLiteral) → types ≡ types_in → objects ≡ objects_in →
+    AreParts types_in objects_in predicates schemas init goal → AreParts types objects predicates schemas init goal
+listed_parts types types_in objects objects_in predicates schemas init goal t o h =
+    subst (λ x. AreParts x objects predicates schemas init goal) (sym t)
+    (subst (λ x. AreParts types_in x predicates schemas init goal) (sym o) h)
+
+-- a task of what the sections state
+pub states_parts : (domain problem : List ℕ) (ds ps in_domain in_problem : List Tree) (known : Known)
+    (types : List TypeDef) (objects : List ObjectDef) (schemas : List Schema) (init : List Atom)
+    (goal : List Literal) (task : Task) →
+    in_domain ≡ sections ds → in_problem ≡ sections ps →
+    types ≡ stated_types domain in_domain known →
+    objects ≡ stated_objects domain in_domain problem in_problem known →
+    schemas ≡ map (stated_schema domain known) (sections_of domain (codes ":action") (sections ds)) →
+    init ≡ map (ground_atom (problem_scope problem known)) (all_after problem (codes ":init") (sections ps)) →
+    goal ≡ flat_map (literals_of (problem_scope problem known)) (all_after problem (codes ":goal") (sections ps)) →
+    IsOfParts types objects (predicates_from schemas 0 known.predicates known.arities) schemas (once init)
+    (filter_map wanted goal) task →
+    StatesTask domain in_domain problem in_problem known task
+states_parts domain problem ds ps in_domain in_problem known types objects schemas init goal task d p t o s i g is = record {
+  types = is.types_are ∙ t;
+  objects = is.objects_are ∙ o;
+  predicates = is.predicates_are ∙ ap (λ x. predicates_from x 0 known.predicates known.arities) (sym is.schemas_are);
+  schemas = is.schemas_are ∙ s ∙ ap (λ x. map (stated_schema domain known) (sections_of domain (codes ":action") x)) (sym d);
+  init = is.init_is ∙ ap once (i ∙ ap (λ x. map (ground_atom (problem_scope problem known))
+      (all_after problem (codes ":init") x)) (sym p));
+  goal = is.goal_is ∙ ap (filter_map wanted) (g ∙ ap (λ x. flat_map (literals_of (problem_scope problem known))
+      (all_after problem (codes ":goal") x)) (sym p));
+}
 
 pub checked : (domain problem : List ℕ) (ds ps in_domain in_problem : List Tree) (known : Known)
     (task : Task) →

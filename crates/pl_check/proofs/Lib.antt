@@ -17,6 +17,7 @@ mod LeastLemmas
 mod FirstLemmas
 mod OpeningLemmas
 mod SectionLemmas
+mod TakenLemmas
 mod DomainLemmas
 mod NoFaultLemmas
 mod RangeLemmas

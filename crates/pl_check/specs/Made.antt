@@ -6,6 +6,7 @@ use Rattle.pl_task.specs.declared.data.ObjectDef.{ObjectDef}
 use Rattle.pl_task.specs.declared.data.PredicateDef.{PredicateDef}
 use Rattle.pl_task.specs.declared.data.Schema.{Schema}
 use Rattle.pl_task.specs.declared.data.TypeDef.{TypeDef}
+use Rattle.pl_task.specs.declared.task.Task.{Task}
 use Rattle.pl_task.specs.WellFormed.{AreTypes, AreObjects, ArePredicates, AreSchemas, AreInitial, IsGoalOf}
 use Rattle.pl_text.specs.Trees.{Tree}
 use Rattle.pl_check.specs.Known.{Known, first_section}
@@ -32,3 +33,12 @@ pub record AreParts (types : List TypeDef) (objects : List ObjectDef) (predicate
   pub schemas_ok : AreSchemas types objects predicates schemas
   pub init_ok : AreInitial objects predicates init
   pub goal_ok : IsGoalOf objects predicates goal
+
+-- the task has these parts
+pub record IsOfParts (types : List TypeDef) (objects : List ObjectDef) (predicates : List PredicateDef) (schemas : List Schema) (init : List Atom) (goal : List GoalLiteral) (task : Task) : Type 0 where
+  pub types_are : task.types ≡ types
+  pub objects_are : task.objects ≡ objects
+  pub predicates_are : task.predicates ≡ predicates
+  pub schemas_are : task.schemas ≡ schemas
+  pub init_is : task.init ≡ init
+  pub goal_is : task.goal ≡ goal

@@ -16,7 +16,7 @@ ghost use Rattle.pl_check.specs.Stated.{stated_schema};
 
 use crate::domain::read_domain_sections;
 use crate::fault::FaultKind;
-use crate::known::Known;
+use crate::known::{Known, into_sections};
 use crate::problem::{Stated, read_problem_sections};
 use crate::reading::{ReadEnd, refusal};
 use crate::role::FileRole;
@@ -48,26 +48,27 @@ pub fn read_domain<'a>(
     Ok(schemas)
 }
 
-/// What the forms of a problem of this many bytes state.
+/// What the forms of a problem of this many bytes state. Each is given up as soon as it was read.
 pub fn read_problem<'a>(
     alloc: Global,
     text: &'a [u8],
     known: &Known<'a>,
-    forms: &[Form],
+    forms: Vec<Form>,
 ) -> Result<Stated, ReadEnd>
     requires text { length text.now ≤ 16777216 }
-    ensures { Reads (spec.file_faults role_of.Problem text.now known.now (length text.now) (trees forms.now))
+    ensures { Reads (spec.file_faults role_of.Problem text.now known.now (length text.now) (trees forms.items))
         (λ stated. (stated.init.items ≡ map (ground_atom (problem_scope text.now known.now))
-        (all_after text.now (codes ":init") (sections_of_file (trees forms.now)))) ×
+        (all_after text.now (codes ":init") (sections_of_file (trees forms.items)))) ×
         (stated.goal.items ≡ flat_map (literals_of (problem_scope text.now known.now))
-        (all_after text.now (codes ":goal") (sections_of_file (trees forms.now))))) result }
+        (all_after text.now (codes ":goal") (sections_of_file (trees forms.items))))) result }
 {
-    let sections = match read_file(text, FileRole::Problem, forms) {
-        Ok(sections) => sections,
+    match read_file(text, FileRole::Problem, forms.as_slice()) {
+        Ok(_) => {}
         Err(end) => return Err(end),
-    };
-    let stated = read_problem_sections(alloc, text, known, sections)?;
-    check_further(forms)?;
+    }
+    let further = check_further(forms.as_slice());
+    let stated = read_problem_sections(alloc, text, known, into_sections(alloc, forms))?;
+    further?;
     Ok(stated)
 }
 

@@ -10,7 +10,7 @@ ghost use Rattle.pl_check.specs.TypedLists.{item_names};
 ghost use Rattle.pl_check.specs.Words as kinds;
 
 use crate::items::add_item_names;
-use crate::source::{head, parts, rest, word};
+use crate::source::{head, into_parts, parts, rest, without_first, word};
 use crate::words::{is_name, is_predicate_name, is_variable};
 use pl_names::{Appearances, Names};
 use pl_text::Form;
@@ -121,6 +121,19 @@ pub fn sections(forms: &[Form]) -> &[Form]
         [] => &[],
         [file, ..] => rest(parts(file), 2),
     }
+}
+
+/// The same, taken out of the file.
+#[tactic(auto, unfolding(crate::specs::Known::sections))]
+pub fn into_sections(alloc: Global, forms: Vec<Form>) -> Vec<Form>
+    ensures { trees result.items ≡ spec.sections (trees forms.items) }
+{
+    let mut left = forms;
+    if left.len() == 0 {
+        return Vec::new(alloc);
+    }
+    let file = left.swap_remove(0);
+    without_first(without_first(into_parts(alloc, file)))
 }
 
 /// The elements after the key of the first section that has it, and none where no section has it.

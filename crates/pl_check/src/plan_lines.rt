@@ -20,7 +20,7 @@ use crate::role::FileRole;
 use crate::source::{head, is_list, parts, place, rest, word};
 use pl_names::Names;
 use pl_task::{List, PlanLine, Step, StepRef, Task};
-use pl_text::{Form, folded_word};
+use pl_text::{Form, small_copy, small_word};
 use std::alloc::{AllocError, Global};
 
 /// The lines of a plan file.
@@ -60,8 +60,8 @@ fn lines_of(
     ensures { IfOk result
         (λ lines. lines ≡ map (spec.line_of (folded bytes.now) task.now) (trees forms.now)) }
 {
-    let text = folded_word(alloc, bytes)?;
-    let lines = read_lines(alloc, &text, task, forms)?;
+    let copy = small_copy(alloc, bytes)?;
+    let lines = read_lines(alloc, small_word(bytes, &copy), task, forms)?;
     Ok(List::of(lines))
 }
 

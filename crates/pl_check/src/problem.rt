@@ -23,7 +23,7 @@ use crate::reading::{ReadEnd, push, refusal};
 use crate::role::FileRole;
 use crate::scope::Scope;
 use crate::section::{check_requirements, read_section_key};
-use crate::source::{parts, place, rest};
+use crate::source::{into_parts, parts, place, without_first};
 use crate::terms::read_atom;
 use crate::typed::{TypedRole, check_typed};
 use pl_names::Names;
@@ -38,19 +38,19 @@ pub struct Stated {
     pub goal: Vec<Literal>,
 }
 
-/// What the sections of a problem state.
+/// What the sections of a problem state. Each form is given up as soon as it was read, since atoms take less memory.
 pub fn read_problem_sections<'a>(
     alloc: Global,
     text: &'a [u8],
     known: &Known<'a>,
-    sections: &[Form],
+    sections: Vec<Form>,
 ) -> Result<Stated, ReadEnd>
     ensures { Reads (spec.sections_faults role.Problem text.now known.now (record { keys = []; actions = [] })
-        (trees sections.now))
+        (trees sections.items))
         (λ stated. (stated.init.items ≡ map (ground_atom (spec.problem_scope text.now known.now))
-        (all_after text.now (codes ":init") (trees sections.now))) ×
+        (all_after text.now (codes ":init") (trees sections.items))) ×
         (stated.goal.items ≡ flat_map (literals_of (spec.problem_scope text.now known.now))
-        (all_after text.now (codes ":goal") (trees sections.now)))) result }
+        (all_after text.now (codes ":goal") (trees sections.items)))) result }
 {
     let parameters = no_names(alloc)?;
     let scope = Scope {
@@ -86,27 +86,33 @@ fn read_one<'a>(
     alloc: Global,
     scope: &Scope<'_, 'a>,
     earlier: &[&'a [u8]],
-    section: &Form,
+    section: Form,
     stated: &mut Stated,
 ) -> Result<&'a [u8], ReadEnd>
     ensures { Reads
         (or_inside (spec.section_own scope.now.text.now role.Problem (texts earlier.now)
-        (tree_of section.now))
+        (tree_of section))
         (spec.problem_inside (scope_in scope.now)
-        (head_word scope.now.text.now (elements_of (tree_of section.now)))
-        (drop 1 (elements_of (tree_of section.now)))))
-        (λ key. (key.now ≡ head_word scope.now.text.now (elements_of (tree_of section.now))) ×
-        (spec.is_action scope.now.text.now (tree_of section.now) ≡ false) ×
+        (head_word scope.now.text.now (elements_of (tree_of section)))
+        (drop 1 (elements_of (tree_of section)))))
+        (λ key. (key.now ≡ head_word scope.now.text.now (elements_of (tree_of section))) ×
+        (spec.is_action scope.now.text.now (tree_of section) ≡ false) ×
         (stated.new.init.items ≡ stated.old.init.items ++
-        cond (bytes_eq (head_word scope.now.text.now (elements_of (tree_of section.now))) (codes ":init"))
-        (map (ground_atom (scope_in scope.now)) (drop 1 (elements_of (tree_of section.now)))) []) ×
+        cond (bytes_eq (head_word scope.now.text.now (elements_of (tree_of section))) (codes ":init"))
+        (map (ground_atom (scope_in scope.now)) (drop 1 (elements_of (tree_of section)))) []) ×
         (stated.new.goal.items ≡ stated.old.goal.items ++
-        cond (bytes_eq (head_word scope.now.text.now (elements_of (tree_of section.now))) (codes ":goal"))
-        (flat_map (literals_of (scope_in scope.now)) (drop 1 (elements_of (tree_of section.now))))
+        cond (bytes_eq (head_word scope.now.text.now (elements_of (tree_of section))) (codes ":goal"))
+        (flat_map (literals_of (scope_in scope.now)) (drop 1 (elements_of (tree_of section))))
         [])) result }
 {
-    let key = read_section_key(scope.text, FileRole::Problem, earlier, section)?;
-    read_section(alloc, scope, key, rest(parts(section), 1), stated)?;
+    let key = read_section_key(scope.text, FileRole::Problem, earlier, &section)?;
+    read_section(
+        alloc,
+        scope,
+        key,
+        without_first(into_parts(alloc, section)),
+        stated,
+    )?;
     Ok(key)
 }
 
@@ -116,19 +122,19 @@ fn read_section(
     alloc: Global,
     scope: &Scope<'_, '_>,
     key: &[u8],
-    forms: &[Form],
+    forms: Vec<Form>,
     stated: &mut Stated,
 ) -> Result<(), ReadEnd>
-    ensures { Reads (spec.problem_inside (scope_in scope.now) key.now (trees forms.now))
+    ensures { Reads (spec.problem_inside (scope_in scope.now) key.now (trees forms.items))
         (λ _. (stated.new.init.items ≡ stated.old.init.items ++
-        cond (bytes_eq key.now (codes ":init")) (map (ground_atom (scope_in scope.now)) (trees forms.now))
+        cond (bytes_eq key.now (codes ":init")) (map (ground_atom (scope_in scope.now)) (trees forms.items))
         []) ×
         (stated.new.goal.items ≡ stated.old.goal.items ++
         cond (bytes_eq key.now (codes ":goal"))
-        (flat_map (literals_of (scope_in scope.now)) (trees forms.now)) [])) result }
+        (flat_map (literals_of (scope_in scope.now)) (trees forms.items)) [])) result }
 {
     if key == b":requirements".as_slice() {
-        return check_requirements(forms);
+        return check_requirements(forms.as_slice());
     }
     if key == b":objects".as_slice() {
         return check_typed(
@@ -136,14 +142,14 @@ fn read_section(
             scope.text,
             scope.known.types(),
             TypedRole::Names,
-            forms,
+            forms.as_slice(),
         );
     }
     if key == b":init".as_slice() {
         return read_init(alloc, scope, forms, &mut stated.init);
     }
     if key == b":goal".as_slice() {
-        return read_goal(alloc, scope, forms, &mut stated.goal);
+        return read_goal(alloc, scope, forms.as_slice(), &mut stated.goal);
     }
     Ok(())
 }
@@ -152,15 +158,15 @@ fn read_section(
 fn read_init(
     alloc: Global,
     scope: &Scope<'_, '_>,
-    forms: &[Form],
+    forms: Vec<Form>,
     atoms: &mut Vec<Atom>,
 ) -> Result<(), ReadEnd>
-    ensures { Reads (flat_map (basic_faults (scope_in scope.now) false) (trees forms.now))
+    ensures { Reads (flat_map (basic_faults (scope_in scope.now) false) (trees forms.items))
         (λ _. atoms.new.items ≡ atoms.old.items ++
-        map (ground_atom (scope_in scope.now)) (trees forms.now)) result }
+        map (ground_atom (scope_in scope.now)) (trees forms.items)) result }
 {
     for form in forms {
-        push(atoms, read_ground(alloc, scope, form)?)?;
+        push(atoms, read_ground(alloc, scope, &form)?)?;
     }
     Ok(())
 }

@@ -6,6 +6,7 @@ ghost use Rattle.pl_text.specs.Trees.{tree_of};
 ghost use Rattle.pl_check.specs.Elements.{trees, place as place_of, word_of, head_word, elements, is_list as has_elements};
 
 use pl_text::Form;
+use std::alloc::Global;
 
 /// The word of a form, and the empty word for a list.
 #[tactic(auto, unfolding(crate::specs::Elements::word_of))]
@@ -70,4 +71,25 @@ pub fn rest(forms: &[Form], count: usize) -> &[Form]
     ensures { result.now ≡ drop count forms.now }
 {
     &forms[count.min(forms.len())..]
+}
+
+/// The elements of a list that is taken apart, and none of a word.
+pub fn into_parts(alloc: Global, form: Form) -> Vec<Form>
+    ensures { trees result.items ≡ elements (tree_of form) }
+{
+    match form {
+        Form::Word(_) => Vec::new(alloc),
+        Form::List(_, inner) => inner,
+    }
+}
+
+/// The forms after the first one.
+pub fn without_first(forms: Vec<Form>) -> Vec<Form>
+    ensures { result.items ≡ drop 1 forms.items }
+{
+    let mut left = forms;
+    if left.len() > 0 {
+        let _ = left.remove(0);
+    }
+    left
 }

@@ -7,7 +7,7 @@ ghost use Rattle.pl_check.specs.Elements.{trees};
 ghost use Rattle.pl_check.specs.Gathering.{lists_in, AreAdded};
 ghost use Rattle.pl_check.specs.Known.{sections_of, all_after};
 ghost use Rattle.pl_check.specs.Literals.{literals_of, ground_atom, wanted};
-ghost use Rattle.pl_check.specs.Made.{stated_types, stated_objects, AreParts};
+ghost use Rattle.pl_check.specs.Made.{stated_types, stated_objects, AreParts, IsOfParts};
 ghost use Rattle.pl_check.specs.Reading.{numbered_in};
 ghost use Rattle.pl_check.specs.Sections.{problem_scope};
 ghost use Rattle.pl_check.specs.Stated as spec;
@@ -25,47 +25,57 @@ use pl_text::Form;
 use std::alloc::{AllocError, Global};
 use std::mem;
 
-/// The task that the sections of a domain and of a problem state, with the schemas and what else they were
-/// read to.
-pub fn task_of<'a>(
+/// The types and the objects of a task.
+#[derive(Drop)]
+pub struct Lists {
+    pub types: Vec<TypeDef>,
+    pub objects: Vec<ObjectDef>,
+}
+
+/// The types and the objects that the sections of a domain and of a problem state.
+pub fn lists_of<'a>(
     alloc: Global,
     known: &Known<'a>,
     domain: &'a [u8],
     domain_sections: &[Form],
     problem: &'a [u8],
     problem_sections: &[Form],
-    schemas: Vec<Schema>,
-    stated: Stated,
-) -> Result<Task, AllocError>
-    requires schemas { schemas.items ≡
-        map (spec.stated_schema domain.now known.now)
-        (sections_of domain.now (codes ":action") (trees domain_sections.now)) }
-    requires init { stated.init.items ≡
-        map (ground_atom (problem_scope problem.now known.now))
-        (all_after problem.now (codes ":init") (trees problem_sections.now)) }
-    requires goal { stated.goal.items ≡
-        flat_map (literals_of (problem_scope problem.now known.now))
-        (all_after problem.now (codes ":goal") (trees problem_sections.now)) }
-    requires parts { AreParts
-        (stated_types domain.now (trees domain_sections.now) known.now)
-        (stated_objects domain.now (trees domain_sections.now) problem.now (trees problem_sections.now)
-        known.now)
-        (spec.predicates_from schemas.items 0 known.now.predicates known.now.arities)
-        schemas.items (spec.once stated.init.items) (filter_map wanted stated.goal.items) }
-    ensures { IfOk result (spec.StatesTask domain.now (trees domain_sections.now) problem.now
-        (trees problem_sections.now) known.now) }
+) -> Result<Lists, AllocError>
+    ensures types { IfOk result (λ lists. lists.types.items ≡
+        stated_types domain.now (trees domain_sections.now) known.now) }
+    ensures objects { IfOk result (λ lists. lists.objects.items ≡
+        stated_objects domain.now (trees domain_sections.now) problem.now (trees problem_sections.now)
+        known.now) }
 {
     let types_in = first_section(domain, b":types", domain_sections);
     let constants_in = first_section(domain, b":constants", domain_sections);
     let objects_in = first_section(problem, b":objects", problem_sections);
     let types = type_list(alloc, known, domain, types_in)?;
     let objects = object_list(alloc, known, domain, constants_in, problem, objects_in)?;
+    Ok(Lists { types, objects })
+}
+
+/// The task of these types, objects and schemas, and of what else was read.
+pub fn task_of(
+    alloc: Global,
+    known: &Known<'_>,
+    lists: Lists,
+    schemas: Vec<Schema>,
+    stated: Stated,
+) -> Result<Task, AllocError>
+    requires { AreParts lists.types.items lists.objects.items
+        (spec.predicates_from schemas.items 0 known.now.predicates known.now.arities)
+        schemas.items (spec.once stated.init.items) (filter_map wanted stated.goal.items) }
+    ensures { IfOk result (IsOfParts lists.types.items lists.objects.items
+        (spec.predicates_from schemas.items 0 known.now.predicates known.now.arities)
+        schemas.items (spec.once stated.init.items) (filter_map wanted stated.goal.items)) }
+{
     let predicates = predicate_list(alloc, known, schemas.as_slice())?;
     let init = each_once(alloc, stated.init)?;
     let goal = goal_of(alloc, stated.goal)?;
     Ok(Task {
-        types: List::of(types),
-        objects: List::of(objects),
+        types: List::of(lists.types),
+        objects: List::of(lists.objects),
         predicates: List::of(predicates),
         schemas: List::of(schemas),
         init: List::of(init),

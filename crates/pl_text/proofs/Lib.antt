@@ -15,3 +15,4 @@ mod FormsOneLaws
 mod FaultOneLaws
 mod ReadsLaws
 mod WordLaws
+mod CapitalLemmas

@@ -59,11 +59,20 @@ impl Model for FormList {
 }
 
 impl FormList {
-    /// The list of these forms.
+    /// The list of these forms, with no more memory than they take.
     pub(crate) fn of(forms: Vec<Form>) -> FormList
         ensures { result ≡ forms.items }
     {
-        FormList { forms }
+        let mut kept = forms;
+        kept.shrink_to_fit();
+        FormList { forms: kept }
+    }
+
+    /// The forms, to be taken apart.
+    pub fn into_forms(self) -> Vec<Form>
+        ensures { result.items ≡ self }
+    {
+        self.forms
     }
 
     /// The forms, as a slice.

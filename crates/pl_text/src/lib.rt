@@ -21,4 +21,4 @@ pub use fault::{MAX_DEPTH, TextEnd, TextFault};
 pub use form::{Form, FormList, Span};
 pub use lines::line_column;
 pub use reader::{MAX_BYTES, forms};
-pub use words::{folded_word, same_word, word};
+pub use words::{folded_word, same_word, small_copy, small_word, word};

@@ -1,38 +1,14 @@
 -- The keys of a set of atoms as a state, and what it takes to add and to delete atoms one by one.
 use Rattle.std.proofs.Common.{◌≡◌, ℕ, ◌+◌, ◌<◌, Bool, true, false, not, cond, ◌&&◌, ◌||◌, ◌==◌, List, [], ◌∷◌, ◌++◌, map, take, length, get_or, refl, sym, ◌∙◌, ap, subst, arith, nat_lt}
 use Rattle.std.proofs.Math.Path.{fun_ext}
-use Rattle.std.specs.declared.cmp.Ordering.{Ordering}
-use Rattle.std.specs.declared.cmp.Ordering.TheVariants.{Less, Equal, Greater}
-use Rattle.std.specs.Ordering.{is_eq, nat_cmp, ordering_then}
-use Rattle.std.specs.Cmp.Lexicographic.{slice_cmp}
-use Rattle.std.specs.BTreeMap.{is_at}
 use Rattle.std.specs.List.{list_any}
 use Rattle.std.proofs.lemmas.Bool.{true≢false, eqb-true, le-ltb}
 use Rattle.std.proofs.lemmas.List.{map_more, take_more}
 use Rattle.std.proofs.lemmas.List.Folds.{list_any-append}
-use Rattle.std.proofs.lemmas.Map.Text.{is_eq-slice_cmp}
 use Rattle.pl_task.specs.declared.data.Atom.{Atom}
 use Rattle.pl_task.specs.declared.data.Lifted.{Lifted}
 use Rattle.pl_task.specs.States.{State, is_same, state_of, atom_at, changed}
 use Rattle.pl_task.proofs.StateLemmas.{same_atom, is_same-itself}
-
--- the derived order of atoms
-abbrev pub atom_cmp : Atom → Atom → Ordering
-atom_cmp a b = ordering_then (nat_cmp a.predicate b.predicate) (slice_cmp nat_cmp a.objects b.objects)
-
-tied_first : (less equal : Bool) (rest : Ordering) → (equal ≡ true → less ≡ false) →
-    is_eq (ordering_then (cond less Less (cond equal Equal Greater)) rest) ≡ (equal && is_eq rest)
-tied_first true true rest h = absurd (true≢false (h refl))
-tied_first true false rest h = refl
-tied_first false true rest h = refl
-tied_first false false rest h = refl
-
--- the order ties the atoms that the test calls the same
-pub tied : (a b : Atom) → is_eq (atom_cmp a b) ≡ is_same a b
-tied a b =
-    tied_first (nat_lt a.predicate b.predicate) (a.predicate == b.predicate) (slice_cmp nat_cmp a.objects b.objects)
-    (λ e. le-ltb a.predicate b.predicate (let same : a.predicate ≡ b.predicate = eqb-true a.predicate b.predicate e in omega arith)) ∙
-    ap (λ t. (a.predicate == b.predicate) && t) (is_eq-slice_cmp a.objects b.objects)
 
 both_true : (x y : Bool) → (x ≡ true → y ≡ true) → (y ≡ true → x ≡ true) → x ≡ y
 both_true true y f g = sym (f refl)
@@ -45,18 +21,11 @@ same_turned a b h = subst (λ (x : Atom). is_same x a ≡ true) (same_atom a b h
 same_both_ways : (a b : Atom) → is_same a b ≡ is_same b a
 same_both_ways a b = both_true (is_same a b) (is_same b a) (same_turned a b) (same_turned b a)
 
--- the set has the atoms that are true in the state of its keys
-pub tested : (a : Atom) (keys : List Atom) → list_any (is_at (atom_cmp a)) keys ≡ state_of keys a
-tested a keys = ap (λ (t : Atom → Bool). list_any t keys) (fun_ext (tied a))
-
 -- a set that differs at one atom only
 turned : (old new : List Atom) (x : Atom) (b : Bool) →
-    ((q : Atom) → list_any (is_at (atom_cmp q)) new ≡ cond (is_at (atom_cmp x) q) b (list_any (is_at (atom_cmp q)) old)) →
+    ((q : Atom) → list_any (is_same q) new ≡ cond (is_same x q) b (list_any (is_same q) old)) →
     (q : Atom) → state_of new q ≡ cond (is_same q x) b (state_of old q)
-turned old new x b h q =
-    sym (tested q new) ∙ h q ∙
-    ap (λ t. cond t b (list_any (is_at (atom_cmp q)) old)) (tied x q ∙ same_both_ways x q) ∙
-    ap (λ t. cond (is_same q x) b t) (tested q old)
+turned old new x b h q = h q ∙ ap (λ t. cond t b (state_of old q)) (same_both_ways x q)
 
 bits_added : (b s : Bool) → cond b true s ≡ ((b || false) || (s && not false))
 bits_added true true = refl
@@ -71,12 +40,12 @@ bits_deleted false true = refl
 bits_deleted false false = refl
 
 pub added_one : (old new : List Atom) (x : Atom) →
-    ((q : Atom) → list_any (is_at (atom_cmp q)) new ≡ cond (is_at (atom_cmp x) q) true (list_any (is_at (atom_cmp q)) old)) →
+    ((q : Atom) → list_any (is_same q) new ≡ cond (is_same x q) true (list_any (is_same q) old)) →
     state_of new ≡ changed (state_of old) [] (x ∷ [])
 added_one old new x h = fun_ext (λ q. turned old new x true h q ∙ bits_added (is_same q x) (state_of old q))
 
 pub deleted_one : (old new : List Atom) (x : Atom) →
-    ((q : Atom) → list_any (is_at (atom_cmp q)) new ≡ cond (is_at (atom_cmp x) q) false (list_any (is_at (atom_cmp q)) old)) →
+    ((q : Atom) → list_any (is_same q) new ≡ cond (is_same x q) false (list_any (is_same q) old)) →
     state_of new ≡ changed (state_of old) (x ∷ []) []
 deleted_one old new x h = fun_ext (λ q. turned old new x false h q ∙ bits_deleted (is_same q x) (state_of old q))
 

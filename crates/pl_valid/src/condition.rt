@@ -6,28 +6,29 @@ ghost use Rattle.pl_task.specs.Goal.{is_goal};
 ghost use Rattle.pl_valid.specs.Judging.{HasValues};
 
 use crate::effect::{grounded, value};
-use pl_task::{Atom, Literal, Task};
+use crate::held::Held;
+use indexmap::IndexSet;
+use pl_task::{Literal, Task};
 use std::alloc::{AllocError, Global};
-use std::collections::BTreeSet;
 
 /// Whether the state is a goal state.
-pub fn meets_goal(task: &Task, atoms: &BTreeSet<Atom>) -> bool
-    ensures { result ≡ is_goal task.now (state_of atoms.now.keys) }
+pub fn meets_goal(alloc: Global, task: &Task, atoms: &IndexSet<Held>) -> Result<bool, AllocError>
+    ensures { IfOk result (λ answer. answer ≡ is_goal task.now (state_of atoms.now.keys)) }
 {
     for literal in task.goal.as_slice() {
-        if holds(atoms, &literal.atom) != literal.wanted {
-            return false;
+        if holds(atoms, &Held::of(alloc, &literal.atom)?) != literal.wanted {
+            return Ok(false);
         }
     }
-    true
+    Ok(true)
 }
 
 /// Whether all literals of a precondition hold, with the arguments put in for the parameters.
 ///
-/// Each takes a look-up in the state, and memory for one atom while it is tested.
+/// Each takes a look-up in the state, by hash.
 pub fn hold_all(
     alloc: Global,
-    atoms: &BTreeSet<Atom>,
+    atoms: &IndexSet<Held>,
     args: &[u32],
     condition: &[Literal],
 ) -> Result<bool, AllocError>
@@ -45,7 +46,7 @@ pub fn hold_all(
 /// Whether the literal holds, with the arguments put in for the parameters.
 fn literal_holds(
     alloc: Global,
-    atoms: &BTreeSet<Atom>,
+    atoms: &IndexSet<Held>,
     args: &[u32],
     literal: &Literal,
 ) -> Result<bool, AllocError>
@@ -61,7 +62,7 @@ fn literal_holds(
 }
 
 /// Whether the atom is true.
-fn holds(atoms: &BTreeSet<Atom>, atom: &Atom) -> bool
+fn holds(atoms: &IndexSet<Held>, atom: &Held) -> bool
     ensures { result ≡ state_of atoms.now.keys atom.now }
 {
     atoms.contains(atom)

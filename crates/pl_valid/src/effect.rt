@@ -4,28 +4,31 @@ ghost use Rattle.std.specs.Prelude.{◌≡◌, [], ◌∷◌, length, map, All, 
 ghost use Rattle.pl_task.specs.States.{IsStep, atom_at, value_of, initial, state_of, changed, result_of};
 ghost use Rattle.pl_valid.specs.Judging.{HasValue};
 
-use pl_task::{Atom, Lifted, List, Step, Task, Term};
+use crate::held::Held;
+use indexmap::IndexSet;
+use pl_task::{Lifted, Step, Task, Term};
+use smallvec::SmallVec;
 use std::alloc::{AllocError, Global};
-use std::collections::BTreeSet;
 
 /// The initial state.
-pub fn initial_state(alloc: Global, task: &Task) -> Result<BTreeSet<Atom>, AllocError>
+pub fn initial_state(alloc: Global, task: &Task) -> Result<IndexSet<Held>, AllocError>
     ensures { IfOk result (λ atoms. state_of atoms.keys ≡ initial task.now) }
 {
-    let mut atoms = BTreeSet::new(alloc);
-    for atom in task.init.as_slice() {
-        add(&mut atoms, copied(alloc, atom)?)?;
+    let init = task.init.as_slice();
+    let mut atoms = IndexSet::with_capacity(alloc, init.len())?;
+    for atom in init {
+        add(&mut atoms, Held::of(alloc, atom)?)?;
     }
     Ok(atoms)
 }
 
 /// Executes a step, applicable or not: removes what it deletes, then inserts what it adds.
 ///
-/// It takes memory for the atoms that the step names, and time that grows with them and the logarithm of the state.
+/// It takes a look-up for each atom that the step names, and memory for those that become true.
 pub fn execute(
     alloc: Global,
     task: &Task,
-    atoms: &mut BTreeSet<Atom>,
+    atoms: &mut IndexSet<Held>,
     step: &Step,
 ) -> Result<(), AllocError>
     requires { IsStep task.now step.now }
@@ -39,19 +42,15 @@ pub fn execute(
 }
 
 /// The atom with the arguments put in for the parameters.
-pub fn grounded(alloc: Global, args: &[u32], atom: &Lifted) -> Result<Atom, AllocError>
+pub fn grounded(alloc: Global, args: &[u32], atom: &Lifted) -> Result<Held, AllocError>
     requires { All (HasValue (length args.now)) atom.now.terms }
     ensures { IfOk result (λ a. a ≡ atom_at args.now atom.now) }
 {
-    let terms = atom.terms.as_slice();
-    let mut objects = Vec::with_capacity(alloc, terms.len())?;
-    for term in terms {
+    let mut objects = SmallVec::new(alloc);
+    for term in atom.terms.as_slice() {
         objects.push(value(args, *term))?;
     }
-    Ok(Atom {
-        predicate: atom.predicate,
-        objects: List::of(objects),
-    })
+    Ok(Held::new(atom.predicate, objects))
 }
 
 /// The object that a term stands for.
@@ -65,20 +64,10 @@ pub fn value(args: &[u32], term: Term) -> u32
     }
 }
 
-/// A copy of an atom.
-fn copied(alloc: Global, atom: &Atom) -> Result<Atom, AllocError>
-    ensures { IfOk result (λ a. a ≡ atom.now) }
-{
-    Ok(Atom {
-        predicate: atom.predicate,
-        objects: List::of(Vec::from_slice(alloc, atom.objects.as_slice())?),
-    })
-}
-
 /// Makes the atoms false.
 fn delete_all(
     alloc: Global,
-    atoms: &mut BTreeSet<Atom>,
+    atoms: &mut IndexSet<Held>,
     args: &[u32],
     effects: &[Lifted],
 ) -> Result<(), AllocError>
@@ -94,7 +83,7 @@ fn delete_all(
 /// Makes the atoms true.
 fn add_all(
     alloc: Global,
-    atoms: &mut BTreeSet<Atom>,
+    atoms: &mut IndexSet<Held>,
     args: &[u32],
     effects: &[Lifted],
 ) -> Result<(), AllocError>
@@ -108,14 +97,14 @@ fn add_all(
 }
 
 /// Makes an atom false.
-fn delete(atoms: &mut BTreeSet<Atom>, atom: &Atom)
+fn delete(atoms: &mut IndexSet<Held>, atom: &Held)
     ensures { state_of atoms.new.keys ≡ changed (state_of atoms.old.keys) (atom.now ∷ []) [] }
 {
-    let _ = atoms.remove(atom);
+    let _ = atoms.swap_remove(atom);
 }
 
 /// Makes an atom true.
-fn add(atoms: &mut BTreeSet<Atom>, atom: Atom) -> Result<(), AllocError>
+fn add(atoms: &mut IndexSet<Held>, atom: Held) -> Result<(), AllocError>
     ensures { OnOk result (state_of atoms.new.keys ≡ changed (state_of atoms.old.keys) [] (atom ∷ [])) }
 {
     let _ = atoms.insert(atom)?;

@@ -7,6 +7,7 @@
 
 mod condition;
 mod effect;
+mod held;
 mod judging;
 pub mod laws;
 mod line;

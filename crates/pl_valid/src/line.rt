@@ -7,18 +7,19 @@ ghost use Rattle.pl_valid.specs.Judging.{KnowsTypes, IsExecuted};
 
 use crate::condition::hold_all;
 use crate::effect::execute;
+use crate::held::Held;
 use crate::typing::TypeTable;
 use crate::verdict::Reason;
-use pl_task::{Atom, PlanLine, Step, Task};
+use indexmap::IndexSet;
+use pl_task::{PlanLine, Step, Task};
 use std::alloc::{AllocError, Global};
-use std::collections::BTreeSet;
 
 /// Executes the line, or says why it cannot be executed.
 pub fn execute_line(
     alloc: Global,
     task: &Task,
     types: &mut TypeTable,
-    atoms: &mut BTreeSet<Atom>,
+    atoms: &mut IndexSet<Held>,
     line: &PlanLine,
 ) -> Result<Option<Reason>, AllocError>
     requires line { IsLineOf task.now line.now }
@@ -47,7 +48,7 @@ fn is_applicable(
     alloc: Global,
     task: &Task,
     types: &mut TypeTable,
-    atoms: &BTreeSet<Atom>,
+    atoms: &IndexSet<Held>,
     step: &Step,
 ) -> Result<bool, AllocError>
     requires step { IsStep task.now step.now }

@@ -9,7 +9,7 @@ returns c = (
   search rules,
   (
     search rules,
-    not_action c.args.scope.now.text.now (texts c.args.earlier.now) (tree_of c.args.section.now)
+    not_action c.args.scope.now.text.now (texts c.args.earlier.now) (tree_of c.args.section)
         c.in_ok-key.ensures.0,
     search rules,
     search rules,
