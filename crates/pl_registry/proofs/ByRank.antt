@@ -8,7 +8,7 @@ use Rattle.std.proofs.lemmas.List.Quantifiers.{all_pairs_push}
 use Rattle.pl_task.specs.Instance.{Instance}
 use Rattle.pl_task.specs.States.{State}
 use Rattle.pl_registry.specs.StateSpace.{StateSpace}
-use Rattle.pl_registry.specs.SearchRecord.{Entry, Pair, SearchRecord, entry_of_initial, entry_by, entry_at, pair_at, states_of, path_of, pair_by, pairs_below, all_pairs, seen_before, IsRising, IsOpen, Precedes, IsFirstOpen, IsRecordUpTo}
+use Rattle.pl_registry.specs.SearchRecord.{Entry, Pair, SearchRecord, entry_of_initial, entry_by, entry_at, pair_at, states_of, path_of, pair_by, pairs_below, all_pairs, seen_before, IsRising, Precedes, IsFirstOpen, IsRecordUpTo}
 use Rattle.pl_registry.specs.Ending.{record_at_once, stats_of, IsNextPair, IsFoundAt, IsFull, IsClosed}
 use Rattle.pl_registry.specs.Held.{with_turn, with_pair, with_new}
 use Rattle.pl_registry.specs.HeldByRank.{IsBetweenRanked, IsInRanked}

@@ -1,11 +1,14 @@
 -- What the endings of searches of a task say of its plans. What may be dropped and what kept is any relation here.
-use Rattle.std.proofs.Common.{◌≡◌, ◌≢◌, ◌+◌, ◌≤◌, ℕ, List, [], ◌∷◌, length, All, AllPairs, refl, sym, ap, subst, inl, inr, arith}
+use Rattle.std.proofs.Common.{◌≡◌, ◌≢◌, ◌+◌, ◌≤◌, ℕ, List, [], ◌∷◌, length, All, AllPairs, refl, sym, ap, ◌∙◌, subst, inl, inr, arith}
+use Rattle.std.specs.Cmp.{IsTotalOrder}
+use Rattle.std.specs.declared.cmp.Ordering.TheVariants.{Less}
 use Rattle.std.proofs.lemmas.List.Elements.{All-weaker}
 use Rattle.pl_task.specs.declared.task.Task.{Task}
 use Rattle.pl_task.specs.Instance.{Instance}
 use Rattle.pl_task.specs.States.{State, result_of, initial}
 use Rattle.pl_task.specs.Plans.{Executes, IsPlan, IsReachable}
-use Rattle.pl_normal.proofs.Listing.{applicable_listed}
+use Rattle.pl_normal.specs.StepOrder.{step_cmp}
+use Rattle.pl_normal.proofs.Listing.{step_order_total, applicable_listed, applicable_ascend}
 use Rattle.pl_registry.specs.declared.ended.Stats.{Stats}
 use Rattle.pl_registry.specs.StateSpace.{LeadsTo, space_of}
 use Rattle.pl_registry.specs.SearchRecord.{SearchRecord}
@@ -13,7 +16,10 @@ use Rattle.pl_registry.specs.Cut.{IsDeadEnd, ReachesNoGoal}
 use Rattle.pl_registry.specs.Ending.{IsEnding, IsWidthEnding, by_number}
 use Rattle.pl_registry.specs.Ending.Ending.{Found, Unsolvable, Limit}
 use Rattle.pl_registry.proofs.Plans.{found_leads, closed_dead, known_dead, full_reached}
+use Rattle.pl_registry.specs.LeastPlan.{plan_cmp, IsLeastPlan}
 use Rattle.pl_registry.proofs.Shortest.{none_shorter}
+use Rattle.pl_registry.proofs.PlanOrder.{before_is_less}
+use Rattle.pl_registry.proofs.Least.{found_first}
 
 -- steps lead in the state space of a task where they are executed, and the other way round
 pub executed : (task : Task) (s last : State) (steps : List Instance) → LeadsTo (space_of task) s steps last → Executes task s steps last
@@ -59,6 +65,37 @@ none_is_shorter task D K limit r plan stats sound (inl (_, empty, _)) steps is =
 none_is_shorter task D K limit r plan stats sound (inr (under_way, found)) steps (last, runs, goal) =
     none_shorter under_way.1.stands {stats = stats} (λ seen s dropped. dead_end task s (sound s dropped)) under_way.1.no_goal found steps last
     (led task (initial task) last steps runs) goal
+
+-- the plan found is the least one
+pub found_is_least : (task : Task) (D K : State → Type 0) (limit : ℕ) (r : SearchRecord) (plan : List Instance)
+    (stats : Stats) → ((s : State) → D s → ReachesNoGoal task s) →
+    IsEnding (space_of task) D K by_number limit r (Found plan) stats → IsLeastPlan task plan
+found_is_least task D K limit r plan stats sound ending =
+    record {
+      is_plan = found_is_plan task D K by_number limit r stats plan ending;
+      shortest = none_is_shorter task D K limit r plan stats sound ending;
+      first = first ending;
+    }
+  where
+    no_steps : (steps : List Instance) → length steps ≡ 0 → steps ≡ []
+    no_steps [] none = refl
+    no_steps (a ∷ steps) none = absurd (omega (arith, none))
+
+    total : IsTotalOrder (step_cmp task)
+    total = step_order_total task
+
+    first : IsEnding (space_of task) D K by_number limit r (Found plan) stats → (steps : List Instance) →
+        IsPlan task steps → length steps ≡ length plan → steps ≢ plan → plan_cmp task plan steps ≡ Less
+    first (inl (_, empty, _)) steps is many other =
+        absurd (other (no_steps steps (many ∙ ap length empty) ∙ sym empty))
+    first (inr (under_way, found)) steps (last, runs, goal) many other =
+        let s = under_way.1.stands in
+        let leads = led task (initial task) last steps runs in
+        elim (found_first s (step_cmp task) total (applicable_ascend task) {stats = stats}
+        (λ seen s dropped. dead_end task s (sound s dropped)) under_way.1.no_goal found steps last leads goal many) [
+          | inl same ↦ absurd (other (sym same))
+          | inr before ↦ before_is_less (step_cmp task) total plan steps before
+        ]
 
 module _ (task : Task) (k limit : ℕ) (r : SearchRecord) (stats : Stats) where
   pub width_found_is_plan : (plan : List Instance) → IsWidthEnding (space_of task) task k limit r (Found plan) stats → IsPlan task plan

@@ -8,8 +8,8 @@ use Rattle.pl_task.specs.States.{State}
 use Rattle.pl_state.specs.StateOf.{state_in, IsStateOf}
 use Rattle.pl_state.specs.Laws.{StatesHaveOneLayout}
 use Rattle.pl_registry.specs.StateSpace.{StateSpace}
-use Rattle.pl_registry.specs.SearchRecord.{Pair, SearchRecord, entry_at, states_of, path_of, pair_by, Precedes, IsRecordUpTo}
-use Rattle.pl_registry.specs.Ending.{capped, stats_of, record_at_once, IsUnderWay, IsFoundAt, IsFull, IsClosed}
+use Rattle.pl_registry.specs.SearchRecord.{Pair, SearchRecord, states_of, path_of, pair_by, Precedes, IsRecordUpTo}
+use Rattle.pl_registry.specs.Ending.{capped, record_at_once, IsUnderWay, IsFoundAt, IsFull, IsClosed}
 use Rattle.pl_registry.specs.Ending.Ending.{Found, Unsolvable, Limit}
 use Rattle.pl_registry.specs.Registered.{Register, Registered, IsRegister, IsHeld, IsHeldAs, initially, registered_path, with_entry, entries_of}
 use Rattle.pl_registry.proofs.ByRank.{at_once, next_turn, turn_over, closed_at, turn_is_there, one_more_dropped, one_more_known, one_more_new, found_at, full_at}
@@ -128,18 +128,20 @@ module _ {task : Task} {space : StateSpace} {D K : State → Type 0} {rank : Sta
 
   -- a search that ends at once
   pub found_at_once : (limit : ℕ) (now : Register) (words : List ℕ) → now.entries ≡ initially words ∷ [] → state_in task words ≡ space.initial → IsTrue (space.is_goal space.initial) →
-      HasEndedRanked task space D K rank limit now (Found []) (record { states = 1; expanded = 0; generated = 0 })
+      HasEndedRanked task space D K rank [] limit now (Found []) (record { states = 1; expanded = 0; generated = 0 })
   found_at_once limit now words only initial goal = record {
     of = record_at_once space;
     is = inl (goal, refl, record { is = refl; stats_are = refl });
+    turns_are = refl;
     holds = first_entries task space now words only initial;
   }
 
   pub cut_at_once : (limit : ℕ) (now : Register) (words : List ℕ) → now.entries ≡ initially words ∷ [] → state_in task words ≡ space.initial → IsFalse (space.is_goal space.initial) → D space.initial →
-      HasEndedRanked task space D K rank limit now Unsolvable (record { states = 1; expanded = 0; generated = 0 })
+      HasEndedRanked task space D K rank [] limit now Unsolvable (record { states = 1; expanded = 0; generated = 0 })
   cut_at_once limit now words only initial no_goal cut = record {
     of = record_at_once space;
     is = inl (no_goal, cut, record { is = refl; stats_are = refl });
+    turns_are = refl;
     holds = first_entries task space now words only initial;
   }
 
@@ -152,7 +154,7 @@ module _ {task : Task} {space : StateSpace} {D K : State → Type 0} {rank : Sta
   -- a search that ends at a pair, or after its last one
   pub found_ending : {now : Register} {past : List ℕ} {t generated : ℕ} {step : Instance} {left : List Instance} → IsUncutSearch space K → HoldsInRanked task space D K rank now past t (step ∷ left) generated →
       IsRegister now → IsTrue (space.is_goal (space.result (state_at task now t) step)) →
-      HasEndedRanked task space D K rank now.limit now (Found (registered_path now.entries t ++ step ∷ []))
+      HasEndedRanked task space D K rank (past ++ t ∷ []) now.limit now (Found (registered_path now.entries t ++ step ∷ []))
       (record { states = length now.entries; expanded = suc (length past); generated = capped (suc generated) })
   found_ending {now = now} {past = past} {t = t} {generated = generated} {step = step} start h register goal =
       let l = turn_registered h in
@@ -165,6 +167,7 @@ module _ {task : Task} {space : StateSpace} {D K : State → Type 0} {rank : Sta
               (subst (IsFoundAt space h.of (path_of h.of.entries t ++ step ∷ [])) (counts_are (length h.of.entries) (length now.entries) (suc (length past)) (length h.of.pairs) generated (entries_alike h.holds) h.counted)
               (found_at h.at (ap space.is_goal (target_is space (length past) h.holds l step) ∙ goal))),
         );
+        turns_are = h.at.turns_are;
         holds = h.holds.entries_are;
       }
 
@@ -172,7 +175,7 @@ module _ {task : Task} {space : StateSpace} {D K : State → Type 0} {rank : Sta
       (words : List ℕ) → StatesHaveOneLayout task → IsStateOf task words → state_in task words ≡ space.result (state_at task now t) step →
       IsFalse (space.is_goal (space.result (state_at task now t) step)) → (IsHeld now words → ⊥) → K (space.result (state_at task now t) step) →
       length now.entries ≡ now.limit →
-      HasEndedRanked task space D K rank now.limit now Limit (record { states = length now.entries; expanded = suc (length past); generated = capped (suc generated) })
+      HasEndedRanked task space D K rank (past ++ t ∷ []) now.limit now Limit (record { states = length now.entries; expanded = suc (length past); generated = capped (suc generated) })
   full_ending {now = now} {past = past} {t = t} {generated = generated} {step = step} start h words one state is no_goal none kept full =
       let l = turn_registered h in
       record {
@@ -183,12 +186,13 @@ module _ {task : Task} {space : StateSpace} {D K : State → Type 0} {rank : Sta
               (full_at h.at (target_no_goal space (length past) h.holds l step no_goal) (target_unknown h words one state is none) (subst K (sym (target_is space (length past) h.holds l step)) kept)
               (entries_alike h.holds ∙ full)),
         );
+        turns_are = h.at.turns_are;
         holds = h.holds.entries_are;
       }
 
   pub closed_ending : {now : Register} {past : List ℕ} {generated : ℕ} → IsUncutSearch space K → HoldsBetweenRanked task space D K rank now past generated → IsRegister now →
       length past ≡ length now.entries → ((i : ℕ) → i < length now.entries → Contains past i) →
-      HasEndedRanked task space D K rank now.limit now Unsolvable (record { states = length now.entries; expanded = length past; generated = generated })
+      HasEndedRanked task space D K rank past now.limit now Unsolvable (record { states = length now.entries; expanded = length past; generated = generated })
   closed_ending {now = now} {past = past} {generated = generated} start h register many every = record {
     of = h.of;
     is = inr (
@@ -196,6 +200,7 @@ module _ {task : Task} {space : StateSpace} {D K : State → Type 0} {rank : Sta
       subst (IsClosed space h.of) (λ i. record { states = entries_alike h.holds i; expanded = length past; generated = sym h.counted i })
           (closed_at h.at (many ∙ sym (entries_alike h.holds)) (λ i l. every i (let alike = entries_alike h.holds in omega (arith, alike, l)))),
     );
+    turns_are = h.at.turns_are;
     holds = h.holds.entries_are;
   }
 

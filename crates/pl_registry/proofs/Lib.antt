@@ -4,6 +4,9 @@ pub mod Turns
 pub mod Entries
 pub mod Plans
 pub mod Shortest
+mod PlanOrder
+pub mod Least
+mod OneLeast
 -- how a registry keeps its entries
 mod LinkLemmas
 pub mod Prefixes
@@ -18,5 +21,10 @@ pub mod Numbered
 pub mod ByRank
 pub mod Holding
 pub mod HoldingByRank
+mod Choosing
+mod Novelties
+-- bounds on probes
+pub mod Bounds
 pub mod Running
+mod RunEndings
 mod ToldApart

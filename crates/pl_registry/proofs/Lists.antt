@@ -1,7 +1,8 @@
--- Members of lists that are mapped and filtered, and reads of joined lists.
-use Rattle.std.proofs.Common.{◌≡◌, ◌⊎◌, zero, suc, Bool, true, List, [], ◌∷◌, map, Contains, refl, sym, ap, ◌∙◌, subst, inl, inr, arith}
+-- Members of lists that are mapped and filtered, and whether all members of a list pass a test.
+use Rattle.std.proofs.Common.{◌≡◌, ◌⊎◌, zero, suc, Bool, true, List, [], ◌∷◌, map, All, Contains, refl, sym, ap, ◌∙◌, subst, inl, inr, arith}
 use Rattle.std.specs.List.{filter}
 use Rattle.std.proofs.lemmas.Bool.{cases_Bool}
+use Rattle.std.proofs.lemmas.List.Elements.{All-nil, All-cons, All-contains}
 
 pub Contains-nil : {X : Type 0} (x : X) → Contains [] x → ⊥
 Contains-nil x (k, h, e) = omega arith
@@ -49,4 +50,23 @@ Contains-from_filter p (y ∷ xs) x h = elim (cases_Bool (p y)) [
     | inr r ↦ (let (m, t) = Contains-from_filter p xs x r in (Contains-cons_rest y xs x m, t))
   ]
   | inr gone ↦ (let (m, t) = Contains-from_filter p xs x (rw gone at h) in (Contains-cons_rest y xs x m, t))
+]
+
+-- where it is decided of each member, all pass, or one does not
+pub all_or_one_not : {X : Type 0} (P : X → Type 0) (xs : List X) →
+    ((x : X) → Contains xs x → P x ⊎ (P x → ⊥)) → All P xs ⊎ ((x : X) × Contains xs x × (P x → ⊥))
+all_or_one_not P [] decide = inl (All-nil P)
+all_or_one_not P (x ∷ xs) decide = elim (decide x (Contains-cons_first x xs)) [
+  | inr fails ↦ inr (x, Contains-cons_first x xs, fails)
+  | inl here ↦ elim (all_or_one_not P xs (λ y has. decide y (Contains-cons_rest x xs y has))) [
+    | inl rest ↦ inl (All-cons P x xs here rest)
+    | inr out ↦ (let (y, has, fails) = out in inr (y, Contains-cons_rest x xs y has, fails))
+  ]
+]
+
+pub all_or_not : {X : Type 0} (P : X → Type 0) (xs : List X) → ((x : X) → Contains xs x → P x ⊎ (P x → ⊥)) →
+    All P xs ⊎ (All P xs → ⊥)
+all_or_not P xs decide = elim (all_or_one_not P xs decide) [
+  | inl all ↦ inl all
+  | inr out ↦ (let (x, has, fails) = out in inr (λ all. fails (All-contains P xs x all has)))
 ]

@@ -3,10 +3,11 @@ use Rattle.std.proofs.Common.{◌≡◌, ◌⊎◌, ◌<◌, ◌≤◌, ℕ, zer
 use Rattle.std.proofs.lemmas.Grind.{same_number_lists}
 use Rattle.std.proofs.lemmas.List.{get_or_default}
 use Rattle.pl_task.specs.States.{State}
+use Rattle.pl_task.specs.declared.task.Task.{Task}
 use Rattle.pl_registry.specs.declared.ended.Stats.{Stats}
 use Rattle.pl_registry.specs.StateSpace.{StateSpace}
 use Rattle.pl_registry.specs.SearchRecord.{SearchRecord, pair_at, IsRecordUpTo}
-use Rattle.pl_registry.specs.Ending.{Ending, by_number, IsAtOnce, IsEnding}
+use Rattle.pl_registry.specs.Ending.{Ending, by_number, IsAtOnce, IsClosed, IsEnding, IsWidthEnding}
 use Rattle.pl_registry.specs.Ending.Ending.{Found, Unsolvable, Exhausted, Limit}
 use Rattle.pl_registry.specs.Held.{turns}
 use Rattle.pl_registry.proofs.Turns.{within_or_past}
@@ -111,3 +112,35 @@ ends_few space D K limit r Unsolvable stats (inr (uncut, closed)) =
 ends_few space D K limit r Exhausted stats h = absurd h
 ends_few space D K limit r Limit stats (uncut, full) =
     (let same = ap (λ (s : Stats). s.expanded) full.stats_are in let few = expanded_few uncut.1.stands in omega (arith, same, few))
+
+-- the same of width searches
+module _ (space : StateSpace) (task : Task) (k limit : ℕ) (r : SearchRecord) where
+  closed_in_number : {D K : List State → State → Type 0} → IsRecordUpTo space D K by_number r → (stats : Stats) →
+      IsClosed space r stats → r.expanded ≡ turns stats.expanded
+  closed_in_number stands stats closed =
+      turns_so_many r stats.expanded (in_number stands)
+      (every_turn stands closed.every ∙ sym (ap (λ (s : Stats). s.expanded) closed.stats_are))
+
+  pub width_in_number : (ending : Ending) (stats : Stats) → IsWidthEnding space task k limit r ending stats →
+      r.expanded ≡ turns stats.expanded
+  width_in_number (Found plan) stats (inl (goal, none, once)) = none_at_once space r stats once
+  width_in_number (Found plan) stats (inr (way, found)) =
+      turns_so_many r stats.expanded (in_number way.stands) (sym (ap (λ (s : Stats). s.expanded) found.stats_are))
+  width_in_number Unsolvable stats (way, closed, known) = closed_in_number way.stands stats closed
+  width_in_number Exhausted stats (way, closed, left) = closed_in_number way.stands stats closed
+  width_in_number Limit stats (way, full) =
+      turns_so_many r stats.expanded (in_number way.stands) (sym (ap (λ (s : Stats). s.expanded) full.stats_are))
+
+  pub width_few : (ending : Ending) (stats : Stats) → IsWidthEnding space task k limit r ending stats →
+      stats.expanded ≤ length r.entries
+  width_few (Found plan) stats (inl (goal, none, once)) = once_few space r stats once
+  width_few (Found plan) stats (inr (way, found)) =
+      (let same = ap (λ (s : Stats). s.expanded) found.stats_are in let few = expanded_few way.stands in
+      omega (arith, same, few))
+  width_few Unsolvable stats (way, closed, known) =
+      (let same = ap (λ (s : Stats). s.expanded) closed.stats_are in omega (arith, same))
+  width_few Exhausted stats (way, closed, left) =
+      (let same = ap (λ (s : Stats). s.expanded) closed.stats_are in omega (arith, same))
+  width_few Limit stats (way, full) =
+      (let same = ap (λ (s : Stats). s.expanded) full.stats_are in let few = expanded_few way.stands in
+      omega (arith, same, few))

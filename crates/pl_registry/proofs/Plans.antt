@@ -1,7 +1,7 @@
 -- A found list leads to a goal state, a closed record has no plan, and a full one has more states than the limit.
 use Rattle.std.proofs.Common.{◌≡◌, ◌≢◌, ◌⊎◌, ◌<◌, ℕ, zero, suc, Bool, true, false, IsTrue, IsFalse, List, [], ◌∷◌, ◌++◌, length, slice_index, Contains, All, AllPairs, sym, ap, ◌∙◌, subst, inl, inr, arith, length-append}
 use Rattle.std.proofs.lemmas.List.{get_or-map, get_or_default, length-map}
-use Rattle.std.proofs.lemmas.List.Elements.{Contains-append_right, All-push}
+use Rattle.std.proofs.lemmas.List.Elements.{Contains-append_left, Contains-append_right, All-push}
 use Rattle.std.proofs.lemmas.List.Quantifiers.{all_pairs_push}
 use Rattle.pl_task.specs.Instance.{Instance}
 use Rattle.pl_task.specs.States.{State}
@@ -36,6 +36,21 @@ module _ {space : StateSpace} {D K : List State → State → Type 0} {rank : St
       let there : at.entry < length r.entries = subst (λ i. i < length r.entries) (sym of.entry_is) (expanded_registered s at.turn turn) in
       subst (LeadsTo space space.initial (path_of r.entries at.entry ++ at.step ∷ [])) (sym of.target_is)
       (leads_on space space.initial (entry_at r.entries at.entry).state (path_of r.entries at.entry) at.step (path_leads s at.entry there) of.step_of)
+
+  -- and so do those of each pair that was tried
+  pub pair_leads : (p : Pair) → Contains r.pairs p →
+      (steps : List Instance) × LeadsTo space space.initial steps p.target
+  pair_leads p has =
+      let (rest, all) = s.begun in
+      let among = subst (λ ps. Contains ps p) (sym all) (Contains-append_left r.pairs rest p has) in
+      let (turn, of) = pair_below space r.entries r.expanded (length r.expanded) p among in
+      let there = subst (λ i. i < length r.entries) (sym of.entry_is) (expanded_registered s p.turn turn) in
+      let from = (entry_at r.entries p.entry).state in
+      let path = path_of r.entries p.entry in
+      let leads = leads_on space space.initial from path p.step (path_leads s p.entry there) of.step_of in (
+        path ++ p.step ∷ [],
+        subst (LeadsTo space space.initial (path ++ p.step ∷ [])) (sym of.target_is) leads,
+      )
 
   pub found_leads : {plan : List Instance} {stats : Stats} → IsFoundAt space r plan stats →
       (last : State) × LeadsTo space space.initial plan last × IsTrue (space.is_goal last)

@@ -1,8 +1,9 @@
--- Two states of a task that are reached are one or they are not: only atoms that some step names can differ, and these are
--- finitely many. All other atoms are as in the initial state.
-use Rattle.std.proofs.Common.{◌≡◌, ◌≢◌, ◌⊎◌, ℕ, Bool, true, false, not, ◌&&◌, ◌||◌, List, [], ◌∷◌, ◌++◌, map, Option, None, Some, slice_get, Contains, refl, sym, ap, ◌∙◌, subst, inl, inr}
+-- Two states of a task that are reached are one or they are not: only atoms that some step names can differ,
+-- and these are finitely many. All others are as in the initial state, so finitely many can be true at all.
+use Rattle.std.proofs.Common.{◌≡◌, ◌≢◌, ◌⊎◌, ℕ, Bool, true, false, not, ◌&&◌, ◌||◌, List, [], ◌∷◌, ◌++◌, map, Option, None, Some, slice_get, Contains, refl, sym, ap, ◌∙◌, subst, IsTrue, inl, inr}
 use Rattle.std.specs.List.{list_any, flat_map}
 use Rattle.std.proofs.lemmas.Bool.{cases_Bool, false≢true}
+use Rattle.std.proofs.lemmas.List.Elements.{Contains-append_left, Contains-append_right}
 use Rattle.std.proofs.lemmas.List.Folds.{list_any-append}
 use Rattle.pl_task.specs.declared.data.Atom.{Atom}
 use Rattle.pl_task.specs.declared.data.Schema.{Schema}
@@ -13,7 +14,7 @@ use Rattle.pl_task.proofs.StateLemmas.{state_of-members, agreeing_states}
 use Rattle.pl_normal.specs.Steps.{all_steps, applicable_steps}
 use Rattle.pl_registry.specs.StateSpace.{LeadsTo, space_of}
 use Rattle.pl_registry.proofs.Lists.{Contains-nil, Contains-cons_cases, Contains-from_filter}
-use Rattle.pl_registry.proofs.Running.{AreToldApart}
+use Rattle.pl_registry.proofs.Running.{AreToldApart, IsReached}
 
 -- the atoms that a step deletes or adds
 abbrev effects_by : List ℕ → Option Schema → List Atom
@@ -24,7 +25,7 @@ abbrev effects_of : Task → Instance → List Atom
 effects_of task step = effects_by step.args (slice_get task.schemas step.schema)
 
 -- the atoms that some step of the task deletes or adds
-abbrev touched : Task → List Atom
+abbrev pub touched : Task → List Atom
 touched task = flat_map (effects_of task) (all_steps task)
 
 -- the state is the initial one but for atoms of the list
@@ -101,6 +102,15 @@ same_or_not first s t atoms one two = elim (agree_or_not s t atoms) [
 ]
 
 pub told_apart : (task : Task) → AreToldApart (space_of task)
-told_apart task s t steps others leads also =
+told_apart task s t (steps, leads) (others, also) =
     let start : IsBut (touched task) (initial task) (initial task) = λ a none. refl in
     same_or_not (initial task) s t (touched task) (reached_but task (initial task) (initial task) s steps start leads) (reached_but task (initial task) (initial task) t others start also)
+
+-- an atom that is true in a state that is reached was so at first, or some step names it
+pub true_within : (task : Task) (s : State) → IsReached (space_of task) s → (a : Atom) → IsTrue (s a) →
+    Contains (task.init ++ touched task) a
+true_within task s (steps, leads) a is = elim (cases_Bool (state_of (touched task) a)) [
+  | inl there ↦ Contains-append_right task.init (touched task) a ((state_of-members (touched task) a).0 there)
+  | inr gone ↦ Contains-append_left task.init (touched task) a ((state_of-members task.init a).0
+      (sym (reached_but task (initial task) (initial task) s steps (λ b none. refl) leads a gone) ∙ is))
+]

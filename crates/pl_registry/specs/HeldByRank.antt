@@ -37,10 +37,11 @@ module _ (task : Task) (space : StateSpace) (D K : State → Type 0) (rank : Sta
     pub holds : HoldsRecord task now of
     pub counted : generated ≡ capped (length of.pairs)
 
-  -- the search has ended, and the registry holds the entries of its record
-  pub record HasEndedRanked (limit : ℕ) (now : Register) (ending : Ending) (stats : Stats) : Type 0 where
+  -- the search has ended after these entries were expanded, in this order, and the registry holds the entries of its record
+  pub record HasEndedRanked (past : List ℕ) (limit : ℕ) (now : Register) (ending : Ending) (stats : Stats) : Type 0 where
     pub of : SearchRecord
     pub is : IsEnding space D K rank limit of ending stats
+    pub turns_are : of.expanded ≡ past
     pub holds : entries_of task now ≡ of.entries
 
   -- the registry holds the entries of a record that stands

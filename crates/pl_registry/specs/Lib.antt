@@ -4,6 +4,7 @@ pub mod SearchRecord
 pub mod Cut
 pub mod Novelty
 pub mod Ending
+pub mod LeastPlan
 pub mod Laws
 -- what contracts see of a registry
 pub mod Registered
@@ -12,5 +13,7 @@ pub mod Fresh
 pub mod Held
 -- the same of a search by any rank
 pub mod HeldByRank
+-- what searches may probe
+pub mod Probes
 -- what the functions inside the crate promise each other
 pub mod Links
