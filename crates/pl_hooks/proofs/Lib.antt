@@ -4,6 +4,8 @@ pub mod DeadEnds
 pub mod Fixings
 -- which states are hopeless
 pub mod StuckLemmas
+-- the test of hopeless states
+pub mod Deciding
 -- closures that are fit for a pruner
 pub mod Cuts
 -- the task of the tests

@@ -4,6 +4,8 @@ pub mod Sound
 pub mod Asked
 pub mod Laws
 pub use Rattle.pl_registry.specs.Cut
+-- the test of hopeless states
+pub mod Hopeless
 -- what is decided once a task
 pub mod Fixed
 -- the task of the tests
