@@ -13,3 +13,5 @@ mod Growing
 mod NotingLemmas
 -- the states seen
 mod Seeing
+-- a step's successor
+mod StepSets

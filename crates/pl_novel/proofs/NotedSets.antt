@@ -17,10 +17,10 @@ pub taken_back : (old new back : List (List ℕ)) (n : ℕ) → Extends old new 
 taken_back old new back n e l b =
     b ∙ (λ i. take (l i) (e.is i)) ∙ take-append-le (length old) old e.more (omega arith) ∙ take_all (length old) old (omega arith)
 
-key_kept : (old new : List (List ℕ)) (n : ℕ) → Extends old new → n < length old → key_at new n ≡ key_at old n
+pub key_kept : (old new : List (List ℕ)) (n : ℕ) → Extends old new → n < length old → key_at new n ≡ key_at old n
 key_kept old new n e l = ap (λ ks. key_at ks n) e.is ∙ get_or_append_left old e.more [] n l
 
-longer : (old new : List (List ℕ)) → Extends old new → length old ≤ length new
+pub longer : (old new : List (List ℕ)) → Extends old new → length old ≤ length new
 longer old new e = let l = ap length e.is in let a = length-append old e.more in omega (arith, l, a)
 
 -- a pair of keys of the old list is one of keys of the new one, and stands for the same set
@@ -42,7 +42,7 @@ set_on old new pair e p =
     ap (set_by new) p.is ∙ (λ i. two_set (key_kept old new p.first e p.first_in i) (key_kept old new p.second e p.second_in i)) ∙ ap (set_by old) (sym p.is)
 
 -- where no two keys are equal, a key has one number
-one_number : (keys : List (List ℕ)) (i j : ℕ) → AreOnce keys → i < length keys → j < length keys → key_at keys i ≡ key_at keys j → i ≡ j
+pub one_number : (keys : List (List ℕ)) (i j : ℕ) → AreOnce keys → i < length keys → j < length keys → key_at keys i ≡ key_at keys j → i ≡ j
 one_number keys i j once a b same = by_order (three i j)
   where
     three : (i j : ℕ) → (i < j) ⊎ ((j < i) ⊎ (i ≡ j))

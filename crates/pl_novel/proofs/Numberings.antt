@@ -5,10 +5,18 @@ use Rattle.std.specs.Str.{bytes_eq}
 use Rattle.std.proofs.lemmas.List.{map-append, take_more, take_all, append-nil, get_or_append_left, get_or_default}
 use Rattle.std.proofs.lemmas.List.Elements.{All-nil, All-cons, All-append, All-weaker, All-head, All-tail}
 use Rattle.std.proofs.lemmas.List.Quantifiers.{position-Some}
-use Rattle.std.proofs.lemmas.Option.{get_or_from_slice_get}
+use Rattle.std.proofs.lemmas.Option.{get_or_from_slice_get, same_Some}
 use Rattle.std.proofs.lemmas.Slice.Eq.{bytes_eq-Decides}
 use Rattle.indexmap.specs.IndexSet.{insert_key}
-use Rattle.pl_novel.specs.Keys.{key_at, with_all, IsPlaced, AreNumbered, Extends}
+use Rattle.pl_task.specs.declared.data.Lifted.{Lifted}
+use Rattle.pl_task.specs.declared.data.Schema.{Schema}
+use Rattle.pl_task.specs.declared.task.Task.{Task}
+use Rattle.pl_task.specs.Instance.{Instance}
+use Rattle.pl_task.specs.States.{IsStep}
+use Rattle.pl_task.specs.WellFormed.{IsTermOf, IsLiftedOf}
+use Rattle.pl_state.specs.Changing.{HasValue}
+use Rattle.pl_state.proofs.Applyings.{step_read}
+use Rattle.pl_novel.specs.Keys.{key_at, key_under, keys_added, keys_added_by, with_all, IsPlaced, AreNumbered, Extends}
 use Rattle.pl_novel.proofs.Lists.{member_found, all_append, all_extends, extends_by}
 
 -- a key that is there
@@ -98,3 +106,40 @@ numbered_row old now new rows predicate i n row key numbers more most l reads ma
 pub numbered_rows : (old now rows : List (List ℕ)) (predicate i : ℕ) (numbers more : List ℕ) → length rows ≤ i → AreNumbered old numbers (map (λ r. predicate ∷ r) (take i rows)) now more →
     AreNumbered old numbers (map (λ r. predicate ∷ r) rows) now more
 numbered_rows old now rows predicate i numbers more l n = subst (λ rs. AreNumbered old numbers (map (λ r. predicate ∷ r) rs) now more) (take_all i rows l) n
+
+-- one more effect
+pub numbered_effect : (old now new : List (List ℕ)) (args : List ℕ) (effects : List Lifted) (i n : ℕ) (effect : Lifted) (key numbers more most : List ℕ) → i < length effects →
+    effect ≡ get_or effects i effect → key ≡ key_under args effect → AreNumbered old numbers (map (key_under args) (take i effects)) now more → IsPlaced now key new n → most ≡ more ++ n ∷ [] →
+    AreNumbered old numbers (map (key_under args) (take (i + 1) effects)) new most
+numbered_effect old now new args effects i n effect key numbers more most l reads made before placed pushed =
+    let cut : map (key_under args) (take i effects) ++ key ∷ [] ≡ map (key_under args) (take (i + 1) effects) =
+    ap (λ k. map (key_under args) (take i effects) ++ k ∷ []) (made ∙ ap (key_under args) reads)
+    ∙ sym (ap (map (key_under args)) (take_more effects i effect l) ∙ map-append (key_under args) (take i effects) (get_or effects i effect ∷ [])) in
+    subst (λ ks. AreNumbered old numbers ks new most) cut
+    (numbered_trans old (map (key_under args) (take i effects)) now (key ∷ []) new numbers more most before (numbered_one now new key n more most placed pushed))
+
+pub numbered_effects : (old now : List (List ℕ)) (args : List ℕ) (effects : List Lifted) (i : ℕ) (numbers more : List ℕ) → length effects ≤ i →
+    AreNumbered old numbers (map (key_under args) (take i effects)) now more → AreNumbered old numbers (map (key_under args) effects) now more
+numbered_effects old now args effects i numbers more l n = subst (λ (es : List Lifted). AreNumbered old numbers (map (key_under args) es) now more) (take_all i effects l) n
+
+-- the effects of a step, as its schema is read
+module _ (task : Task) (step : Instance) (schemas : List Schema) (schema : Schema) (adds : List Lifted) (is_step : IsStep task step) (are : schemas ≡ task.schemas)
+    (reads : schema ≡ get_or schemas step.schema schema) (lent : adds ≡ schema.add) where
+  pub effects_have_values : All (λ (e : Lifted). All (HasValue (length step.args)) e.terms) adds
+  effects_have_values =
+      let read = step_read task step schemas schema is_step are reads in
+      let one : is_step.schema ≡ schema = same_Some is_step.schema schema (sym is_step.found ∙ read.found) in
+      let many : length step.args ≡ length schema.parameters = is_step.many ∙ ap (λ (x : Schema). length x.parameters) one in
+      subst (All (λ (e : Lifted). All (HasValue (length step.args)) e.terms)) (sym lent)
+      (All-weaker (IsLiftedOf task.predicates (length task.objects) (length schema.parameters)) (λ (e : Lifted). All (HasValue (length step.args)) e.terms)
+      (λ e x. All-weaker (IsTermOf (length task.objects) (length schema.parameters)) (HasValue (length step.args)) (λ t y n is. subst (λ m. n < m) (sym many) (y.parameter n is)) e.terms x.terms)
+      schema.add read.well.adds)
+
+  effect_keys : map (key_under step.args) adds ≡ keys_added task step
+  effect_keys =
+      let read = step_read task step schemas schema is_step are reads in
+      ap (map (key_under step.args)) lent ∙ sym (ap (keys_added_by step.args) read.found)
+
+  pub added_numbered : (old new : List (List ℕ)) (numbers more : List ℕ) → numbers ≡ [] → AreNumbered old numbers (map (key_under step.args) adds) new more →
+      AreNumbered old [] (keys_added task step) new more
+  added_numbered old new numbers more none h = subst (λ ns. AreNumbered old ns (keys_added task step) new more) none (subst (λ ks. AreNumbered old numbers ks new more) effect_keys h)

@@ -24,7 +24,7 @@ pub record IsOrderedPair {Y : Type 0} (f : List ℕ → List ℕ → Y) (keys : 
 pub first_below : (x : List ℕ) (xs : List (List ℕ)) (y : List ℕ) → IsAscending (x ∷ xs) → Contains xs y → row_cmp x y ≡ Less
 first_below x xs y s h = All-contains (λ q. row_cmp x q ≡ Less) xs y (All-after_first row_cmp x xs s) h
 
-never_below_itself : (x : List ℕ) → row_cmp x x ≡ Less → ⊥
+pub never_below_itself : (x : List ℕ) → row_cmp x x ≡ Less → ⊥
 never_below_itself x h = not_below_itself row_cmp nat_list_cmp_total x h
 
 -- the pairs of an ascending list are its ordered pairs

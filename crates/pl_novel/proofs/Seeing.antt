@@ -55,7 +55,7 @@ fluent_low task p h =
           (ap (λ b. b || list_any (is_of_predicate p) schema.add) (sym gone) ∙ changed)
     ]
 
-fluent_back : (task : Task) (p : ℕ) → is_fluent task.schemas p ≡ true → is_fluent_in task p ≡ true
+pub fluent_back : (task : Task) (p : ℕ) → is_fluent task.schemas p ≡ true → is_fluent_in task p ≡ true
 fluent_back task p h = fluent_from task p (get_or task.predicates p none) found (task.predicates_ok.static p (get_or task.predicates p none) found ∙ ap not h)
   where
     none : PredicateDef

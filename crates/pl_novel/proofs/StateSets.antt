@@ -33,10 +33,10 @@ module _ (task : Task) (s : State) (keys : List (List ℕ)) (are : AreKeysBelow 
   key_says (p ∷ o) h = let k = (are.members p o).0 h in record { fluent = k.fluent; held = k.held; back = refl }
 
   -- a fluent atom of the state has its key there
-  has_key : (a : Atom) → is_fluent_in task a.predicate ≡ true → s a ≡ true → Contains keys (key_of a)
+  pub has_key : (a : Atom) → is_fluent_in task a.predicate ≡ true → s a ≡ true → Contains keys (key_of a)
   has_key a fluent held = (are.members a.predicate a.objects).1 (record { low = fluent_within task a.predicate fluent; fluent = fluent; held = held })
 
-  one_in : (k : ℕ) (key : List ℕ) → 1 ≤ k → Contains keys key → IsSetOf task k s (one_set key)
+  pub one_in : (k : ℕ) (key : List ℕ) → 1 ≤ k → Contains keys key → IsSetOf task k s (one_set key)
   one_in k key some h =
       let says = key_says key h in
       record {
@@ -45,7 +45,7 @@ module _ (task : Task) (s : State) (keys : List (List ℕ)) (are : AreKeysBelow 
         has = one_all (λ a. IsTrue (s a)) (atom_by key) says.held;
       }
 
-  two_in : (k : ℕ) (low high : List ℕ) → 2 ≤ k → Contains keys low → Contains keys high → row_cmp low high ≡ Less → IsSetOf task k s (two_set low high)
+  pub two_in : (k : ℕ) (low high : List ℕ) → 2 ≤ k → Contains keys low → Contains keys high → row_cmp low high ≡ Less → IsSetOf task k s (two_set low high)
   two_in k low high some l h less =
       let a = key_says low l in
       let b = key_says high h in

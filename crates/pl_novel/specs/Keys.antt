@@ -1,11 +1,15 @@
 -- How the noted sets lie in memory: the keys of the single atoms, and pairs of numbers of these.
-use Rattle.std.specs.Prelude.{◌≡◌, ◌≢◌, ◌↔◌, ℕ, zero, suc, Bool, nat_lt, ◌||◌, ◌<◌, ◌≤◌, true, List, [], ◌∷◌, ◌++◌, map, length, slice_index, slice_index_or, All, AllPairs, Contains, bytes_eq}
+use Rattle.std.specs.Prelude.{◌≡◌, ◌≢◌, ◌↔◌, ◌⊎◌, ℕ, zero, suc, Bool, nat_lt, ◌==◌, ◌||◌, ◌<◌, ◌≤◌, true, List, [], ◌∷◌, ◌++◌, map, length, Option, Some, None, slice_get, slice_index, slice_index_or, All, AllPairs, Contains, bytes_eq, if◌then◌else◌}
+use Rattle.std.specs.List.{flat_map}
 use Rattle.std.specs.declared.cmp.Ordering.TheVariants.{Less}
 use Rattle.indexmap.specs.IndexSet.{insert_all}
 use Rattle.pl_rows.specs.Rows.{row_cmp, IsAscending}
 use Rattle.pl_task.specs.declared.data.Atom.{Atom}
+use Rattle.pl_task.specs.declared.data.Lifted.{Lifted}
+use Rattle.pl_task.specs.declared.data.Schema.{Schema}
 use Rattle.pl_task.specs.declared.task.Task.{Task}
-use Rattle.pl_task.specs.States.{State}
+use Rattle.pl_task.specs.Instance.{Instance}
+use Rattle.pl_task.specs.States.{State, value_of}
 use Rattle.pl_state.specs.Layout.{atom_of}
 use Rattle.pl_state.specs.StateOf.{is_fluent_in}
 use Rattle.pl_novel.specs.Noting.{Noted}
@@ -108,3 +112,45 @@ pub record Extends (old new : List (List ℕ)) : Type 0 where
 -- whether one of two counts has grown
 abbrev pub has_grown : ℕ → ℕ → ℕ → ℕ → Bool
 has_grown atoms more_atoms doubles more_doubles = nat_lt atoms more_atoms || nat_lt doubles more_doubles
+
+-- the key of an effect's atom under the arguments
+abbrev pub key_under : List ℕ → Lifted → List ℕ
+key_under args e = e.predicate ∷ map (value_of args) e.terms
+
+abbrev pub keys_added_by : List ℕ → Option Schema → List (List ℕ)
+keys_added_by args None = []
+keys_added_by args (Some schema) = map (key_under args) schema.add
+
+-- the keys of the atoms that a step adds
+abbrev pub keys_added : Task → Instance → List (List ℕ)
+keys_added task step = keys_added_by step.args (slice_get task.schemas step.schema)
+
+-- the pairs of a number with the others of the list, in the order of the list
+abbrev pub pairs_around : List ℕ → ℕ → List (List ℕ)
+pairs_around [] n = []
+pairs_around (m ∷ numbers) n = if m == n then map (pair_of n) numbers else pair_of m n ∷ pairs_around numbers n
+
+-- the same for each of these numbers
+abbrev pub pairs_with : List ℕ → List ℕ → List (List ℕ)
+pairs_with numbers added = flat_map (pairs_around numbers) added
+
+-- the keys were put behind the old ones
+pub record NotesSingles (width : ℕ) (added old_keys old_pairs keys pairs : List (List ℕ)) : Type 0 where
+  pub low : width < 2
+  pub keys_are : keys ≡ with_all old_keys added
+  pub pairs_are : pairs ≡ old_pairs
+
+-- and then those of the state, and the pairs that have one of the former behind the old pairs
+pub record NotesDoubles (task : Task) (s : State) (width : ℕ) (added old_keys old_pairs keys pairs : List (List ℕ)) : Type 0 where
+  pub high : 2 ≤ width
+  pub between : List (List ℕ)
+  pub added_numbers : List ℕ
+  pub numbers : List ℕ
+  pub of_added : AreNumbered old_keys [] added between added_numbers
+  pub of_state : AreStateNumbers task s (length task.predicates) between keys numbers
+  pub pairs_are : pairs ≡ with_all old_pairs (pairs_with numbers added_numbers)
+
+-- what noting the sets that have one of these atoms comes to, by the width
+abbrev pub NotesAdded : Task → State → ℕ → (added old_keys old_pairs keys pairs : List (List ℕ)) → Type 0
+NotesAdded task s width added old_keys old_pairs keys pairs =
+    NotesSingles width added old_keys old_pairs keys pairs ⊎ NotesDoubles task s width added old_keys old_pairs keys pairs

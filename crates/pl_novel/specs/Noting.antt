@@ -2,7 +2,8 @@
 use Rattle.std.specs.Prelude.{◌≡◌, ◌≢◌, ◌↔◌, ◌⊎◌, ℕ, ◌≤◌, List, All, AllPairs, Contains}
 use Rattle.pl_task.specs.declared.data.Atom.{Atom}
 use Rattle.pl_task.specs.declared.task.Task.{Task}
-use Rattle.pl_task.specs.States.{State}
+use Rattle.pl_task.specs.Instance.{Instance}
+use Rattle.pl_task.specs.States.{State, result_of}
 use Rattle.pl_novel.specs.AtomSets.{IsAtomSet, IsSetOf}
 
 -- the width, and the sets that are noted
@@ -30,3 +31,13 @@ pub record HasNewSet (task : Task) (noted : Noted) (s : State) : Type 0 where
 pub record NotesState (task : Task) (s : State) (old new : Noted) : Type 0 where
   pub same_width : new.width ≡ old.width
   pub sets_are : (set : List Atom) → IsNoted new set ↔ (IsNoted old set ⊎ IsSetOf task old.width s set)
+
+-- all sets of the state's fluent atoms are noted
+abbrev pub AreAllNoted : Task → Noted → State → Type 0
+AreAllNoted task noted s = (set : List Atom) → IsSetOf task noted.width s set → IsNoted noted set
+
+-- the step leads to the state, applicable or not, from one whose sets are all noted
+pub record FollowsNoted (task : Task) (noted : Noted) (s : State) (step : Instance) : Type 0 where
+  pub parent : State
+  pub leads : s ≡ result_of task parent step
+  pub parent_noted : AreAllNoted task noted parent

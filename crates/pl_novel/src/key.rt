@@ -1,12 +1,16 @@
 //! The key of an atom.
 
-ghost use Rattle.std.specs.Prelude.{◌≡◌, ◌∷◌, [], nat_eq, IfOk, OnOk};
+ghost use Rattle.std.specs.Prelude.{◌≡◌, ◌∷◌, ◌++◌, [], nat_eq, length, map, All, IfOk, OnOk};
 ghost use Rattle.std.specs.Cmp as order;
 ghost use Rattle.std.specs.Hash as fed;
 ghost use Rattle.std.specs.Cmp.Lexicographic.{pointwise, nat_list_eq_equiv};
 ghost use Rattle.std.specs.Cmp.Rules.{hashing};
 ghost use Rattle.std.proofs.Common.{rules};
+ghost use Rattle.pl_task.specs.States.{value_of};
+ghost use Rattle.pl_state.specs.Changing.{HasValue};
+ghost use Rattle.pl_novel.specs.Keys.{key_under};
 
+use pl_task::{Lifted, Term};
 use std::alloc::{AllocError, Global};
 use std::hash::{Hash, Hasher};
 use std::marker::Model;
@@ -45,6 +49,17 @@ impl Key {
         Ok(())
     }
 
+    /// Makes this the key of the atom that an effect names under the arguments, in the same way.
+    pub(crate) fn set_under(&mut self, args: &[u32], effect: &Lifted) -> Result<(), AllocError>
+        requires { All (HasValue (length args.now)) effect.now.terms }
+        ensures { OnOk result (self.new ≡ key_under args.now effect.now) }
+    {
+        self.words.clear();
+        self.words.push(effect.predicate)?;
+        write_values(&mut self.words, args, effect.terms.as_slice())?;
+        Ok(())
+    }
+
     /// A copy of the key.
     pub(crate) fn copy(&self, alloc: Global) -> Result<Key, AllocError>
         ensures { IfOk result (λ key. key ≡ self.now) }
@@ -58,6 +73,29 @@ impl Key {
         ensures { result.now ≡ self.now }
     {
         self.words.as_slice()
+    }
+}
+
+/// Appends the objects that the terms stand for.
+fn write_values(words: &mut Vec<u32>, args: &[u32], terms: &[Term]) -> Result<(), AllocError>
+    requires { All (HasValue (length args.now)) terms.now }
+    ensures { OnOk result (words.new.items ≡ words.old.items ++ map (value_of args.now) terms.now) }
+{
+    for i in 0..terms.len() {
+        words.push(value(args, terms[i]))?;
+    }
+    Ok(())
+}
+
+/// The object that a term stands for.
+#[inline]
+fn value(args: &[u32], term: Term) -> u32
+    requires { HasValue (length args.now) term }
+    ensures { result ≡ value_of args.now term }
+{
+    match term {
+        Term::Parameter(n) => args[n as usize],
+        Term::Object(n) => n,
     }
 }
 

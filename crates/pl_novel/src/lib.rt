@@ -5,6 +5,7 @@
 //! in memory: an atom is hashed once, to its number, and a set of two atoms is a pair of numbers.
 #![tactic(auto)]
 
+mod adding;
 mod key;
 pub mod laws;
 mod novelty;

@@ -1,17 +1,19 @@
 //! The noted sets of a search.
 
 ghost use Rattle.std.specs.Prelude.{◌≡◌, ◌↔◌, ◌≤◌, [], IsTrue, IfOk, OnOk, OnErr};
+ghost use Rattle.pl_task.specs.States.{IsStep};
 ghost use Rattle.pl_state.specs.StateOf.{state_in, IsStateOf};
-ghost use Rattle.pl_novel.specs.Noting.{Noted, AreNoted, HasNewSet, NotesState};
+ghost use Rattle.pl_novel.specs.Noting.{Noted, AreNoted, HasNewSet, NotesState, FollowsNoted};
 ghost use Rattle.pl_novel.specs.Keys.{has_grown as has_grown_of};
 
+use crate::adding::note_added;
 use crate::key::Key;
 use crate::numbering::number_state;
 use crate::pair::Pair;
 use crate::pairing::note_pairs;
 use indexmap::IndexSet;
 use pl_state::Packed;
-use pl_task::Task;
+use pl_task::{StepRef, Task};
 use std::alloc::{AllocError, Global};
 use std::marker::Model;
 
@@ -28,6 +30,8 @@ pub struct Novelty {
     scratch: Key,
     /// The numbers of the atoms of the last state, kept for their memory.
     numbers: Vec<usize>,
+    /// The numbers of the atoms that the last step added, kept for their memory.
+    added: Vec<usize>,
 }
 
 impl Model for Novelty {
@@ -57,6 +61,7 @@ impl Novelty {
             doubles: IndexSet::new(alloc),
             scratch: Key::new(alloc),
             numbers: Vec::new(alloc),
+            added: Vec::new(alloc),
         }
     }
 
@@ -94,6 +99,47 @@ impl Novelty {
             }
         }
         Ok(has_grown(atoms, self.atoms.len(), doubles, self.doubles.len()))
+    }
+
+    /// The same for a state that the step leads to from one whose sets are all noted. It looks only at the sets that
+    /// have an atom which the step adds: the others are sets of the state before it.
+    pub fn note_step(
+        &mut self,
+        task: &Task,
+        state: &Packed,
+        step: StepRef<'_>,
+    ) -> Result<bool, AllocError>
+        requires state { IsStateOf task.now state.now }
+        requires step { IsStep task.now (record { schema = step.schema; args = step.args.now }) }
+        requires follows { FollowsNoted task.now self.old (state_in task.now state.now)
+            (record { schema = step.schema; args = step.args.now }) }
+        ensures yes { IfOk result (λ answer. IsTrue answer ↔ HasNewSet task.now self.old (state_in task.now state.now)) }
+        ensures noted { OnOk result (NotesState task.now (state_in task.now state.now) self.old self.new) }
+        ensures err { OnErr result (self.new ≡ self.old) }
+        ensures sets { AreNoted self.new }
+    {
+        let atoms = self.atoms.len();
+        let pairs = self.doubles.len();
+        match note_added(
+            self.alloc,
+            self.k,
+            &mut self.atoms,
+            &mut self.doubles,
+            &mut self.scratch,
+            &mut self.numbers,
+            &mut self.added,
+            task,
+            state,
+            step,
+        ) {
+            Ok(()) => {}
+            Err(e) => {
+                self.doubles.truncate(pairs);
+                self.atoms.truncate(atoms);
+                return Err(e);
+            }
+        }
+        Ok(has_grown(atoms, self.atoms.len(), pairs, self.doubles.len()))
     }
 }
 

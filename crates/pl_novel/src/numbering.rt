@@ -80,7 +80,11 @@ fn row_at(flat: &[u32], width: usize, i: usize) -> &[u32]
 
 /// The number of the atom with this key, which goes last if it is not there. It is looked up once if it is there, without
 /// memory.
-fn place(alloc: Global, atoms: &mut IndexSet<Key>, key: &Key) -> Result<usize, AllocError>
+pub(crate) fn place(
+    alloc: Global,
+    atoms: &mut IndexSet<Key>,
+    key: &Key,
+) -> Result<usize, AllocError>
     ensures ok { IfOk result (IsPlaced atoms.old.keys key.now atoms.new.keys) }
     ensures extends { Extends atoms.old.keys atoms.new.keys }
 {

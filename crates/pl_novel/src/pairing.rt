@@ -1,7 +1,7 @@
-//! The pairs of the numbers of a state's atoms.
+//! Pairs of the numbers of a state's atoms: all of them, or those with one of some numbers.
 
 ghost use Rattle.std.specs.Prelude.{◌≡◌, map, OnOk};
-ghost use Rattle.pl_novel.specs.Keys.{pair_of, pairs_by, pairs_under, with_all, Extends};
+ghost use Rattle.pl_novel.specs.Keys.{pair_of, pairs_by, pairs_under, pairs_around, pairs_with, with_all, Extends};
 
 use crate::pair::Pair;
 use indexmap::IndexSet;
@@ -41,6 +41,39 @@ fn note_with(pairs: &mut IndexSet<Pair>, first: usize, others: &[usize]) -> Resu
 {
     for second in others {
         pairs.insert(Pair::of(first, *second))?;
+    }
+    Ok(())
+}
+
+/// Puts the pairs of each of the numbers `added` with the others of the list behind those that are there.
+pub(crate) fn note_pairs_with(
+    pairs: &mut IndexSet<Pair>,
+    numbers: &[usize],
+    added: &[usize],
+) -> Result<(), AllocError>
+    ensures ok { OnOk result (pairs.new.keys ≡ with_all pairs.old.keys (pairs_with numbers.now added.now)) }
+    ensures extends { Extends pairs.old.keys pairs.new.keys }
+{
+    for number in added {
+        note_around(pairs, numbers, *number)?;
+    }
+    Ok(())
+}
+
+/// The pairs of one number with the others of the list.
+fn note_around(
+    pairs: &mut IndexSet<Pair>,
+    numbers: &[usize],
+    number: usize,
+) -> Result<(), AllocError>
+    ensures ok { OnOk result (pairs.new.keys ≡ with_all pairs.old.keys (pairs_around numbers.now number)) }
+    ensures extends { Extends pairs.old.keys pairs.new.keys }
+{
+    for place in 0..numbers.len() {
+        if numbers[place] == number {
+            return note_with(pairs, number, &numbers[place + 1..]);
+        }
+        pairs.insert(Pair::of(numbers[place], number))?;
     }
     Ok(())
 }
