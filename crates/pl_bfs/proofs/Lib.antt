@@ -5,6 +5,7 @@ mod Within
 mod Bounds
 -- the search as a whole
 mod Whole
+mod LeastFound
 -- width search
 mod Sifted
 mod SiftedTrials

@@ -1,18 +1,20 @@
 -- Whether a state is new: what the noted sets say of it, and what they are after it.
-use Rattle.std.proofs.Common.{◌≡◌, ◌⊎◌, ◌↔◌, ◌≤◌, ℕ, Bool, true, false, IsTrue, List, [], ◌∷◌, length, get_or, drop, Any, Contains, Option, Some, None, refl, sym, ap, ◌∙◌, subst, inl, inr, arith}
+use Rattle.std.proofs.Common.{◌≡◌, ◌⊎◌, ◌↔◌, ◌<◌, ◌≤◌, ℕ, Bool, true, false, IsTrue, List, [], ◌∷◌, length, get_or, drop, Any, Contains, Option, Some, None, refl, sym, ap, ◌∙◌, subst, inl, inr, arith}
 use Rattle.std.proofs.lemmas.Bool.{cases_Bool, false≢true}
 use Rattle.std.specs.Prelude.{bytes_eq, is_some}
 use Rattle.pl_task.specs.declared.data.Atom.{Atom}
 use Rattle.pl_task.specs.declared.task.Task.{Task}
-use Rattle.pl_task.specs.States.{State}
+use Rattle.pl_task.specs.Instance.{Instance}
+use Rattle.pl_task.specs.States.{State, result_of}
 use Rattle.pl_state.specs.StateOf.{state_in}
 use Rattle.pl_registry.specs.Novelty.{IsNovel}
-use Rattle.pl_registry.specs.Registered.{Register, Finds}
+use Rattle.pl_registry.specs.Registered.{Register, registered_at, Finds}
 use Rattle.pl_registry.specs.Held.{states_held}
+use Rattle.pl_registry.proofs.Holding.{held_is_known}
 use Rattle.pl_registry.proofs.Lists.{Contains-nil, Contains-cons_cases, Contains-cons_first, Contains-cons_rest}
 use Rattle.pl_novel.specs.AtomSets.{key_of, IsSetOf}
 use Rattle.pl_novel.specs.Keys.{atom_by}
-use Rattle.pl_novel.specs.Noting.{Noted, IsNoted, HasNewSet, NotesState}
+use Rattle.pl_novel.specs.Noting.{Noted, IsNoted, HasNewSet, NotesState, FollowsNoted}
 use Rattle.pl_novel.specs.Laws.{AreSetsSeen, NewSetsAreNovel, NotingIsSeeing, NothingIsSeen}
 use Rattle.pl_bfs.specs.declared.sieve.Sieve.{Sieve}
 use Rattle.pl_bfs.specs.Sifting.{NotesSeen, TellsHeld, IsFoundNew, IsFoundStale}
@@ -109,10 +111,23 @@ first_seen task k s old new seeing none low high width sets noting = record {
   sets = (seeing old new [] s (none old sets) noting).0;
 }
 
+-- the step of a state seen leads to the state, so that it follows one whose sets are all noted
+pub follows_seen : (task : Task) (k : ℕ) (now : Register) (noted : Noted) (n : ℕ) (step : Instance) (from next : List ℕ) → from ≡ (registered_at now.entries n).words → n < length now.entries →
+    state_in task next ≡ result_of task (state_in task from) step → NotesSeen task k (states_held task now) noted → FollowsNoted task noted (state_in task next) step
+follows_seen task k now noted n step from next read there leads notes = record {
+  parent = state_in task from;
+  leads = leads;
+  parent_noted = λ set is. (let (i, l, e) = held_is_known task now from n (there, sym read) in (notes.sets set).1 (i, state_in task from, l, e, is));
+}
+
+-- a state was left out before
+pub told_before : (now : Register) (words : List ℕ) (before : Bool) → before ≡ true → TellsHeld now words before before
+told_before now words before met = inr (inr (met, met))
+
 -- whether a state is registered, as it was looked up
 pub told_unheld : (now : Register) (words : List ℕ) (before : Bool) (found : Option ℕ) → Finds now words found → is_some found ≡ false → TellsHeld now words before true
 told_unheld now words before (Some i) finds is = absurd (false≢true (sym is))
-told_unheld now words before None finds is = inr (finds, refl)
+told_unheld now words before None finds is = inr (inl (finds, refl))
 
 pub told_held : (now : Register) (words : List ℕ) (before : Bool) (found : Option ℕ) → Finds now words found → is_some found ≡ true → TellsHeld now words before before
 told_held now words before (Some i) finds is = inl (i, finds, refl)

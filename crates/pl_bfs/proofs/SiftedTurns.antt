@@ -48,9 +48,13 @@ stale_on task k seen t s stale novel = stale (record {
 })
 
 module _ (task : Task) (k : ℕ) (r : SearchRecord) (p : Pair) where
+  -- a pair that was left behind before stays so
+  still_behind : IsLeftBehind task k r → IsLeftBehind task k (with_pair r p)
+  still_behind h = record { pair = h.pair; tried = Contains-append_left r.pairs (p ∷ []) h.pair h.tried; unknown = h.unknown; stale = h.stale }
+
   -- its target is registered
   known_again : (b : Bool) → Contains (states_of r.entries) p.target → TellsLeftOut task k r b → TellsLeftOut task k (with_pair r p) b
-  known_again true known h = record { pair = h.pair; tried = Contains-append_left r.pairs (p ∷ []) h.pair h.tried; unknown = h.unknown; stale = h.stale }
+  known_again true known h = still_behind h
   known_again false known h = All-push (λ (q : Pair). Contains (states_of r.entries) q.target) r.pairs p h known
 
   -- its target is not new, and not registered
@@ -173,9 +177,12 @@ module _ (task : Task) (k : ℕ) (first : Register) (n : ℕ) where
         subst (TellsLeftOut task k (with_pair w.turn.of this)) (sym same)
         (known_again task k w.turn.of this before.left_out
         (of_seen (λ seen s. Contains seen s) w.turn.holds reads (subst (Contains (states_held task old)) is (held_is_known task old words i held))) w.told)
-    tells words state is stale (inr (unheld, met)) =
+    tells words state is stale (inr (inl (unheld, met))) =
         subst (TellsLeftOut task k (with_pair w.turn.of this)) (sym met)
         (left_behind task k w.turn.of this (target_unknown w.turn words (one_state task) state is unheld) (of_seen (IsStale task k) w.turn.holds reads stale))
+    tells words state is stale (inr (inr (set, met))) =
+        subst (TellsLeftOut task k (with_pair w.turn.of this)) (sym met)
+        (still_behind task k w.turn.of this (subst (TellsLeftOut task k w.turn.of) set w.told))
 
     -- its target is left out
     out_on : (words : List ℕ) → IsStateOf task words → state_in task words ≡ target_of task old n step → IsFalse (is_goal task (target_of task old n step)) →

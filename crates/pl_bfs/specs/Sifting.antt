@@ -29,9 +29,10 @@ pub record NotesSeen (task : Task) (k : ℕ) (seen : List State) (noted : Noted)
   pub few : noted.width ≤ 2
   pub sets : AreSetsSeen task noted seen
 
--- whether a state that is left out is registered is told: where it is, nothing changes
+-- whether a state that is left out is registered is told: where it is, or one that isn't was left out before, nothing changes
 abbrev pub TellsHeld : Register → List ℕ → Bool → Bool → Type 0
-TellsHeld now words before after = ((i : ℕ) × IsHeldAs now words i × (after ≡ before)) ⊎ ((IsHeld now words → ⊥) × (after ≡ true))
+TellsHeld now words before after =
+    ((i : ℕ) × IsHeldAs now words i × (after ≡ before)) ⊎ (((IsHeld now words → ⊥) × (after ≡ true)) ⊎ ((before ≡ true) × (after ≡ true)))
 
 -- the state is new, and seen now
 pub record IsFoundNew (task : Task) (k : ℕ) (now : Register) (words : List ℕ) (before after : Sieve) : Type 0 where

@@ -1,16 +1,15 @@
 -- A search under way, and what its parts leave.
-use Rattle.std.specs.Prelude.{◌≡◌, ◌<◌, ◌≤◌, ℕ, suc, Bool, List, length, Option, Some, None, Result, Ok, Err}
-use Rattle.std.specs.List.{sum_by}
+use Rattle.std.specs.Prelude.{◌≡◌, ℕ, suc, Bool, List, Option, Some, None, Result, Ok, Err}
 use Rattle.std.specs.Borrow.{Bor}
 use denote.Param.Members.{Shared}
 use Rattle.pl_task.specs.declared.task.Task.{Task}
 use Rattle.pl_task.specs.Instance.{Instance}
-use Rattle.pl_normal.specs.Measures.{probe_bound}
 use Rattle.pl_registry.specs.StateSpace.{space_of}
 use Rattle.pl_registry.specs.declared.ended.Ended.{Ended}
 use Rattle.pl_registry.specs.declared.ended.Outcome.{Outcome}
-use Rattle.pl_registry.specs.Registered.{Register, registered_at}
-use Rattle.pl_registry.specs.Held.{IsUncutSearch, HoldsBetweenTurns, HoldsInTurn, turns, state_at}
+use Rattle.pl_registry.specs.Registered.{Register}
+use Rattle.pl_registry.specs.Held.{IsUncutSearch, HoldsBetweenTurns, HoldsInTurn, turns}
+use Rattle.pl_registry.specs.Probes.{bound_of}
 use Rattle.pl_bfs.specs.Breadth.{MayDrop, MayKeep, IsBreadth, IsBrokenOff}
 
 -- an outcome with counts
@@ -37,11 +36,6 @@ module _ {F : Type 0} (calls : Shared F (Bor (List ℕ) × Unit {0}) Bool) (task
   AfterTurn new n generated (Ok (Some ended)) = IsBreadth calls task cut old new ended
   AfterTurn new n generated (Err e) = IsBrokenOff calls task cut old new
 
--- the entries that were there are there with the same numbers
-pub record KeepsEntries (old new : Register) : Type 0 where
-  pub many : length old.entries ≤ length new.entries
-  pub same : (i : ℕ) → i < length old.entries → registered_at new.entries i ≡ registered_at old.entries i
-
 -- what the turns of the first n entries may probe
 abbrev pub turns_bound : Task → Register → ℕ → ℕ
-turns_bound task now n = sum_by (λ i. probe_bound task (state_at task now i)) (turns n)
+turns_bound task now n = bound_of task now (turns n)

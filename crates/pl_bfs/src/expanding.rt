@@ -5,9 +5,10 @@ ghost use Rattle.pl_state.specs.Decided.{IsDecidedGoal};
 ghost use Rattle.pl_normal.specs.Measures.{probe_bound};
 ghost use Rattle.pl_gen.specs.Walks.{AreAcyclic};
 ghost use Rattle.pl_registry.specs.Held.{state_at};
+ghost use Rattle.pl_registry.specs.Probes.{KeepsEntries};
 ghost use Rattle.pl_registry.specs.Registered.{Register, IsRegister};
 ghost use Rattle.pl_hooks.specs.Sound.{IsSoundCut};
-ghost use Rattle.pl_bfs.specs.UnderWay.{IsBetween, AfterTurn, KeepsEntries, ended_by};
+ghost use Rattle.pl_bfs.specs.UnderWay.{IsBetween, AfterTurn, ended_by};
 
 use crate::trying::try_step;
 use pl_gen::Prepared;

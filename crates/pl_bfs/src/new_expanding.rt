@@ -1,7 +1,11 @@
 //! The turn of an entry in a width search: its state is expanded.
 
-ghost use Rattle.std.specs.Prelude.{◌≡◌, ◌<◌, ◌≤◌, ℕ, length};
+ghost use Rattle.std.specs.Prelude.{◌≡◌, ◌+◌, ◌<◌, ◌≤◌, ℕ, length, IfOk, IfSome};
 ghost use Rattle.pl_state.specs.Decided.{IsDecidedGoal};
+ghost use Rattle.pl_normal.specs.Measures.{probe_bound};
+ghost use Rattle.pl_gen.specs.Walks.{AreAcyclic};
+ghost use Rattle.pl_registry.specs.Held.{state_at};
+ghost use Rattle.pl_registry.specs.Probes.{KeepsEntries};
 ghost use Rattle.pl_registry.specs.Registered.{Register};
 ghost use Rattle.pl_bfs.specs.Sifting.{IsSiftedBetween, AfterSiftedTurn};
 
@@ -18,6 +22,8 @@ use std::sync::ledger::Ledger;
 
 /// Tries the applicable steps of entry `n`, the first one that wasn't expanded, until the search ends or none
 /// is left. Each one is counted. The only error is want of memory.
+///
+/// Where all schemas are acyclic it takes at most the bound of the entry's state on probes.
 pub(crate) fn expand_new<L: Ledger>(
     alloc: Global,
     normal: &NormalTask<'_>,
@@ -35,6 +41,10 @@ pub(crate) fn expand_new<L: Ledger>(
     ensures turn { (k : ℕ) (first : Register) →
         IsSiftedBetween normal.now k first registry.old n generated.old sieve.old →
         AfterSiftedTurn normal.now k first registry.new n generated.new sieve.new result }
+    ensures kept { IfOk result (λ _. KeepsEntries registry.old registry.new) }
+    ensures counted { IfOk result (λ end. IfSome end (λ ended. ended.stats.expanded ≡ n + 1)) }
+    ensures cost { IfOk result (λ _. AreAcyclic normal.now →
+        steps.new ≤ steps.old + probe_bound normal.now (state_at normal.now registry.old n)) }
     ensures rise { steps.old ≤ steps.new }
 {
     let prepared = Prepared::prepare(alloc, normal, registry.state(n), steps)?;

@@ -29,6 +29,7 @@ pub(crate) fn try_new(
     requires states { All (λ (e : Registered). IsStateOf task.now e.words) registry.old.entries }
     requires number { n < length registry.old.entries }
     requires step { IsStep task.now (record { schema = step.schema; args = step.args.now }) }
+    requires seen { (k : ℕ) × NotesSeen task.now k (states_held task.now registry.old) sieve.old.novelty }
     ensures tries { (k : ℕ) → NotesSeen task.now k (states_held task.now registry.old) sieve.old.novelty →
         TriesNew task.now k registry.old registry.new sieve.old sieve.new n
         (record { schema = step.entry.schema; args = step.entry.args.now }) result }
@@ -38,7 +39,7 @@ pub(crate) fn try_new(
         let plan = registry.path_then(alloc, n, step)?;
         return Ok(Some(Outcome::Found(plan)));
     }
-    if !sieve.is_new(task, registry, &next)? {
+    if !sieve.is_new(task, registry, &next, step)? {
         return Ok(None);
     }
     match registry.add(next, n, step) {

@@ -3,7 +3,7 @@
 ghost use Rattle.std.specs.Prelude.{◌≡◌, ◌+◌, ◌≤◌, IfOk, IfErr};
 ghost use Rattle.pl_hooks.specs.Sound.{IsSoundCut};
 ghost use Rattle.pl_gen.specs.Walks.{AreAcyclic};
-ghost use Rattle.pl_bfs.specs.Breadth.{IsFresh, IsBreadth, IsBrokenOff, search_bound};
+ghost use Rattle.pl_bfs.specs.Breadth.{IsFresh, IsBreadth, IsBrokenOff, IsLeastIfFound, search_bound};
 
 use crate::expanding::{ended, expand};
 use pl_hooks::Pruner;
@@ -17,7 +17,8 @@ use std::sync::ledger::Ledger;
 
 /// Searches for a plan: states are registered in the order in which they are reached, and expanded in the order of
 /// their numbers. A successor that the pruner drops isn't registered. A goal state ends the search as soon as it is
-/// reached.
+/// reached. So the plan that is found is the first, step by step in the order of steps, of all plans with the
+/// fewest steps.
 ///
 /// The registry holds the initial state alone, and gives the limit on states. The only error is want of memory.
 ///
@@ -33,6 +34,7 @@ pub fn breadth<L: Ledger, F: Fn(&Packed) -> bool>(
     requires task { pruner.now.task.now ≡ normal.now }
     requires sound { IsSoundCut F.Fn normal.now pruner.now.cut }
     ensures ended { IfOk result (IsBreadth F.Fn normal.now pruner.now.cut registry.old registry.new) }
+    ensures least { IfOk result (λ ended. IsLeastIfFound normal.now ended.outcome) }
     ensures wanting { IfErr result (λ _.
         IsBrokenOff F.Fn normal.now pruner.now.cut registry.old registry.new) }
     ensures cost { IfOk result (λ ended. AreAcyclic normal.now →

@@ -1,8 +1,9 @@
 //! Width search.
 
-ghost use Rattle.std.specs.Prelude.{◌≡◌, ◌≤◌, length, IfOk, IfErr};
+ghost use Rattle.std.specs.Prelude.{◌≡◌, ◌+◌, ◌≤◌, length, IfOk, IfErr};
+ghost use Rattle.pl_gen.specs.Walks.{AreAcyclic};
 ghost use Rattle.pl_registry.specs.Registered.{IsRegister};
-ghost use Rattle.pl_bfs.specs.Breadth.{IsFresh};
+ghost use Rattle.pl_bfs.specs.Breadth.{IsFresh, search_bound};
 ghost use Rattle.pl_bfs.specs.Sifting.{closed_by, stats_by};
 ghost use Rattle.pl_bfs.specs.Width.{IsWidth, IsWidthBrokenOff, ending_of_width};
 
@@ -25,6 +26,9 @@ use std::sync::ledger::Ledger;
 ///
 /// The registry holds the initial state alone, and gives the limit on states. The only error is want of
 /// memory.
+///
+/// Where all schemas are acyclic it takes at most as many probes as the bounds of the expanded states come
+/// to.
 pub fn width<L: Ledger>(
     alloc: Global,
     normal: &NormalTask<'_>,
@@ -37,6 +41,9 @@ pub fn width<L: Ledger>(
     requires fresh { IsFresh normal.now registry.old }
     ensures ended { IfOk result (IsWidth normal.now k registry.old registry.new) }
     ensures wanting { IfErr result (λ _. IsWidthBrokenOff normal.now k registry.old registry.new) }
+    ensures cost { IfOk result (λ ended. AreAcyclic normal.now →
+        (search : IsWidth normal.now k registry.old registry.new ended) →
+        steps.new ≤ steps.old + search_bound normal.now search.of) }
     ensures rise { steps.old ≤ steps.new }
 {
     let goal = GoalTest::of(alloc, normal.task())?;

@@ -45,7 +45,7 @@ turns_has n i l =
     let many = turns_long n in
     (i, omega (arith, many, l), get_or_default (turns n) i i 0 (omega (arith, many, l)) ∙ turns_read n i l)
 
-turns_under : (n i : ℕ) → Contains (turns n) i → i < n
+pub turns_under : (n i : ℕ) → Contains (turns n) i → i < n
 turns_under n i (k, l, e) =
     let many = turns_long n in
     let read = get_or_default (turns n) k 0 i l ∙ e in

@@ -27,10 +27,10 @@ use Rattle.pl_registry.specs.HeldByRank.{HoldsInRanked, HasEndedRanked}
 use Rattle.pl_registry.proofs.HoldingByRank.{turn_begun, turn_ended, dropped_one, known_one, new_one, found_ending, full_ending, stands_in, stands_between}
 use Rattle.pl_task.specs.Goal.{unmet}
 use Rattle.pl_hooks.specs.Asked.{MayDrop, MayKeep}
-use Rattle.pl_greedy.specs.Greedy.{IsGreedy, IsBrokenOff}
+use Rattle.pl_greedy.specs.Greedy.{IsBrokenOff}
 use Rattle.pl_greedy.specs.Trying.{Tries, IsLeftOut, IsTakenIn}
 use Rattle.pl_greedy.specs.Queue.{IsQueued}
-use Rattle.pl_greedy.specs.UnderWay.{IsBetween, IsChosen, IsWithin, IsMoreKeys, Attempts, ended_by, AfterTurn}
+use Rattle.pl_greedy.specs.UnderWay.{IsBetween, IsChosen, IsWithin, IsGreedyAfter, IsMoreKeys, Attempts, ended_by, AfterTurn}
 use Rattle.pl_greedy.proofs.Queueing.{queued_more}
 
 -- the applicable steps of a prepared state are steps of its task
@@ -81,30 +81,32 @@ still_there calls task cut old new n step keys more (inr (h, _)) l =
 
 module _ {F : Type 0} (calls : Shared F (Bor (List ℕ) × Unit {0}) Bool) (task : Task) (cut : F) (first : Register) where
   -- a search has ended
-  pub ended_so : (limit : ℕ) (old new : Register) (ending : Ending) (stats : Stats) (ended : Ended) →
-      HasEndedRanked task (space_of task) (MayDrop calls task cut) (MayKeep calls task cut) (unmet task) limit old ending stats →
-      limit ≡ first.limit → new ≡ old → old.limit ≡ first.limit → ending_of ended.outcome ≡ ending → ended.stats ≡ stats → IsGreedy calls task cut first new ended
-  ended_so limit old new ending stats ended h at same kept outcome counts =
-      subst (λ (r : Register). IsGreedy calls task cut first r ended) (sym same)
+  pub ended_so : (past : List ℕ) (limit : ℕ) (old new : Register) (ending : Ending) (stats : Stats) (ended : Ended) →
+      HasEndedRanked task (space_of task) (MayDrop calls task cut) (MayKeep calls task cut) (unmet task) past limit old ending stats →
+      limit ≡ first.limit → new ≡ old → old.limit ≡ first.limit → ending_of ended.outcome ≡ ending → ended.stats ≡ stats → IsGreedyAfter calls task cut first past new ended
+  ended_so past limit old new ending stats ended h at same kept outcome counts =
+      subst (λ (r : Register). IsGreedyAfter calls task cut first past r ended) (sym same)
       (record {
-        of = h.of;
-        ending = subst (λ (s : Stats). IsEnding (space_of task) (MayDrop calls task cut) (MayKeep calls task cut) (unmet task) first.limit h.of (ending_of ended.outcome) s) (sym counts)
-            (subst (λ (e : Ending). IsEnding (space_of task) (MayDrop calls task cut) (MayKeep calls task cut) (unmet task) first.limit h.of e stats) (sym outcome)
-            (subst (λ (l : ℕ). IsEnding (space_of task) (MayDrop calls task cut) (MayKeep calls task cut) (unmet task) l h.of ending stats) at h.is));
-        holds = h.holds;
-        limit = kept;
+        search = record {
+          of = h.of;
+          ending = subst (λ (s : Stats). IsEnding (space_of task) (MayDrop calls task cut) (MayKeep calls task cut) (unmet task) first.limit h.of (ending_of ended.outcome) s) (sym counts)
+              (subst (λ (e : Ending). IsEnding (space_of task) (MayDrop calls task cut) (MayKeep calls task cut) (unmet task) first.limit h.of e stats) (sym outcome)
+              (subst (λ (l : ℕ). IsEnding (space_of task) (MayDrop calls task cut) (MayKeep calls task cut) (unmet task) l h.of ending stats) at h.is));
+          holds = h.holds;
+          limit = kept;
+        };
+        turns_are = h.turns_are;
       })
 
-module _ {F : Type 0} (calls : Shared F (Bor (List ℕ) × Unit {0}) Bool) (task : Task) (cut : F) (first : Register) (n : ℕ) where
+module _ {F : Type 0} (calls : Shared F (Bor (List ℕ) × Unit {0}) Bool) (task : Task) (cut : F) (first : Register) (past : List ℕ) (n : ℕ) where
   -- all steps of the state are left
-  pub begun : (now : Register) (keys : List ℕ) (expanded generated : ℕ) (words : List ℕ) (prepared : PreparedState) (left : List Instance) → IsChosen calls task cut first now keys n expanded generated →
-      words ≡ (registered_at now.entries n).words → prepared ≡ record { task = task; words = words } → left ≡ steps_in prepared → IsWithin calls task cut first now keys n left expanded generated
+  pub begun : (now : Register) (keys : List ℕ) (expanded generated : ℕ) (words : List ℕ) (prepared : PreparedState) (left : List Instance) → IsChosen calls task cut first now past keys n expanded generated →
+      words ≡ (registered_at now.entries n).words → prepared ≡ record { task = task; words = words } → left ≡ steps_in prepared → IsWithin calls task cut first now past keys n left expanded generated
   begun now keys expanded generated words prepared left chosen read is steps =
       record {
-        past = chosen.past;
         many = chosen.many;
         uncut = chosen.uncut;
-        turn = subst (λ (ss : List Instance). HoldsInRanked task (space_of task) (MayDrop calls task cut) (MayKeep calls task cut) (unmet task) now chosen.past n ss generated)
+        turn = subst (λ (ss : List Instance). HoldsInRanked task (space_of task) (MayDrop calls task cut) (MayKeep calls task cut) (unmet task) now past n ss generated)
             (sym (steps ∙ ap steps_in is ∙ ap (λ ws. applicable_steps task (state_in task ws)) read)) (turn_begun n chosen.turns_are chosen.there chosen.unexpanded chosen.precedes);
         limit = chosen.limit;
         queued = chosen.queued;
@@ -112,71 +114,68 @@ module _ {F : Type 0} (calls : Shared F (Bor (List ℕ) × Unit {0}) Bool) (task
 
   -- no step is left
   pub over : (now : Register) (keys : List ℕ) (left : List Instance) (expanded generated : ℕ) → left ≡ [] →
-      IsWithin calls task cut first now keys n left expanded generated →
-      IsBetween calls task cut first now keys (suc expanded) generated
+      IsWithin calls task cut first now past keys n left expanded generated →
+      IsBetween calls task cut first now (past ++ n ∷ []) keys (suc expanded) generated
   over now keys left expanded generated none w =
       record {
-        past = w.past ++ n ∷ [];
-        many = (let e = w.many in let both = length-append w.past (n ∷ []) in omega (arith, e, both));
+        many = (let e = w.many in let both = length-append past (n ∷ []) in omega (arith, e, both));
         uncut = w.uncut;
-        turns_are = turn_ended n (subst (λ (ss : List Instance). HoldsInRanked task (space_of task) (MayDrop calls task cut) (MayKeep calls task cut) (unmet task) now w.past n ss generated) none w.turn);
+        turns_are = turn_ended n (subst (λ (ss : List Instance). HoldsInRanked task (space_of task) (MayDrop calls task cut) (MayKeep calls task cut) (unmet task) now past n ss generated) none w.turn);
         limit = w.limit;
         queued = w.queued;
       }
 
   -- memory ran out before the first step
   pub unprepared : {E : Type 0} (now : Register) (keys more : List ℕ) (expanded generated g : ℕ) (result : Result (Option Ended) E) → IsErr result →
-      IsChosen calls task cut first now keys n expanded generated → AfterTurn calls task cut first now more expanded g result
+      IsChosen calls task cut first now past keys n expanded generated → AfterTurn calls task cut first now (past ++ n ∷ []) more expanded g result
   unprepared now keys more expanded generated g (Ok answer) e w = absurd (false≢true e)
   unprepared now keys more expanded generated g (Err fault) e w =
       let h = stands_between w.turns_are in record { of = h.of; stands = h.stands; holds = h.holds; limit = w.limit }
 
-  module _ (old new : Register) (step : Instance) (left whole : List Instance) (keys : List ℕ) (expanded generated more : ℕ) (w : IsWithin calls task cut first old keys n whole expanded generated)
+  module _ (old new : Register) (step : Instance) (left whole : List Instance) (keys : List ℕ) (expanded generated more : ℕ) (w : IsWithin calls task cut first old past keys n whole expanded generated)
       (parts : whole ≡ step ∷ left) (count : more ≡ min (generated + 1) (2 ^ 64 - 1)) where
-    turn : HoldsInRanked task (space_of task) (MayDrop calls task cut) (MayKeep calls task cut) (unmet task) old w.past n (step ∷ left) generated
-    turn = subst (λ (ss : List Instance). HoldsInRanked task (space_of task) (MayDrop calls task cut) (MayKeep calls task cut) (unmet task) old w.past n ss generated) parts w.turn
+    turn : HoldsInRanked task (space_of task) (MayDrop calls task cut) (MayKeep calls task cut) (unmet task) old past n (step ∷ left) generated
+    turn = subst (λ (ss : List Instance). HoldsInRanked task (space_of task) (MayDrop calls task cut) (MayKeep calls task cut) (unmet task) old past n ss generated) parts w.turn
 
     counted : more ≡ capped (suc generated)
     counted = count ∙ ap (λ k. min k (2 ^ 64 - 1)) (one_more generated)
 
     -- a state that was left out changes nothing
     left_out : IsLeftOut calls task cut old new n step →
-        HoldsInRanked task (space_of task) (MayDrop calls task cut) (MayKeep calls task cut) (unmet task) new w.past n left more
+        HoldsInRanked task (space_of task) (MayDrop calls task cut) (MayKeep calls task cut) (unmet task) new past n left more
     left_out h =
-        subst (λ r. HoldsInRanked task (space_of task) (MayDrop calls task cut) (MayKeep calls task cut) (unmet task) r w.past n left more) (sym h.same)
-        (subst (λ m. HoldsInRanked task (space_of task) (MayDrop calls task cut) (MayKeep calls task cut) (unmet task) old w.past n left m) (sym counted) (elim h.why [
+        subst (λ r. HoldsInRanked task (space_of task) (MayDrop calls task cut) (MayKeep calls task cut) (unmet task) r past n left more) (sym h.same)
+        (subst (λ m. HoldsInRanked task (space_of task) (MayDrop calls task cut) (MayKeep calls task cut) (unmet task) old past n left m) (sym counted) (elim h.why [
           | inl dropped ↦ dropped_one turn h.no_goal dropped
           | inr held ↦ known_one turn h.words held.0 h.target h.no_goal held.1
         ]))
 
     -- a state that was taken in is one more entry
     taken_in : IsTakenIn calls task cut old new n step →
-        HoldsInRanked task (space_of task) (MayDrop calls task cut) (MayKeep calls task cut) (unmet task) new w.past n left more
+        HoldsInRanked task (space_of task) (MayDrop calls task cut) (MayKeep calls task cut) (unmet task) new past n left more
     taken_in h =
-        subst (λ r. HoldsInRanked task (space_of task) (MayDrop calls task cut) (MayKeep calls task cut) (unmet task) r w.past n left more) (sym h.more)
-        (subst (λ m. HoldsInRanked task (space_of task) (MayDrop calls task cut) (MayKeep calls task cut) (unmet task) (with_entry old h.words n step) w.past n left m) (sym counted)
+        subst (λ r. HoldsInRanked task (space_of task) (MayDrop calls task cut) (MayKeep calls task cut) (unmet task) r past n left more) (sym h.more)
+        (subst (λ m. HoldsInRanked task (space_of task) (MayDrop calls task cut) (MayKeep calls task cut) (unmet task) (with_entry old h.words n step) past n left m) (sym counted)
         (new_one turn h.words (one_state task) h.state h.target h.no_goal h.unheld h.kept))
 
     -- and it waits
     waits : (next : List ℕ) → (h : IsTakenIn calls task cut old new n step) → IsMoreKeys task new (length old.entries) keys next →
-        IsQueued task new (w.past ++ n ∷ []) next
+        IsQueued task new (past ++ n ∷ []) next
     waits next h m =
-        subst (λ (r : Register). IsQueued task r (w.past ++ n ∷ []) next) (sym h.more)
-        (queued_more task old (w.past ++ n ∷ []) keys next h.words n step w.queued (subst (λ (r : Register). IsMoreKeys task r (length old.entries) keys next) h.more m))
+        subst (λ (r : Register). IsQueued task r (past ++ n ∷ []) next) (sym h.more)
+        (queued_more task old (past ++ n ∷ []) keys next h.words n step w.queued (subst (λ (r : Register). IsMoreKeys task r (length old.entries) keys next) h.more m))
 
     -- the search goes on
     pub onward : (next : List ℕ) → Attempts calls task cut {E = ℕ} old new n step keys next (Ok None) →
-        IsWithin calls task cut first new next n left expanded more
+        IsWithin calls task cut first new past next n left expanded more
     onward next (inl (h, same)) = record {
-      past = w.past;
       many = w.many;
       uncut = w.uncut;
       turn = left_out h;
       limit = ap (λ (r : Register). r.limit) h.same ∙ w.limit;
-      queued = subst (IsQueued task new (w.past ++ n ∷ [])) (sym same) (subst (λ (r : Register). IsQueued task r (w.past ++ n ∷ []) keys) (sym h.same) w.queued);
+      queued = subst (IsQueued task new (past ++ n ∷ [])) (sym same) (subst (λ (r : Register). IsQueued task r (past ++ n ∷ []) keys) (sym h.same) w.queued);
     }
     onward next (inr (h, m)) = record {
-      past = w.past;
       many = w.many;
       uncut = w.uncut;
       turn = taken_in h;
@@ -195,18 +194,18 @@ module _ {F : Type 0} (calls : Shared F (Bor (List ℕ) × Unit {0}) Bool) (task
 
     -- which is what an error comes to
     pub failed : {E : Type 0} (next : List ℕ) (g : ℕ) (result : Result (Option Ended) E) → IsErr result → (new ≡ old) ⊎ IsTakenIn calls task cut old new n step →
-        AfterTurn calls task cut first new next expanded g result
+        AfterTurn calls task cut first new (past ++ n ∷ []) next expanded g result
     failed next g (Ok answer) e h = absurd (false≢true e)
     failed next g (Err fault) e h = broken h
 
     ends_by : (o : Outcome) → IsRegister new → Tries calls task cut old new n step {E = ℕ} (Ok (Some o)) →
-        IsGreedy calls task cut first new (ended_by o (length new.entries) (expanded + 1) more)
+        IsGreedyAfter calls task cut first (past ++ n ∷ []) new (ended_by o (length new.entries) (expanded + 1) more)
     ends_by (outcome.Found plan) register h =
-        ended_so calls task cut first old.limit old new (Found (registered_path old.entries n ++ step ∷ [])) (record { states = length old.entries; expanded = suc (length w.past); generated = capped (suc generated) })
+        ended_so calls task cut first (past ++ n ∷ []) old.limit old new (Found (registered_path old.entries n ++ step ∷ [])) (record { states = length old.entries; expanded = suc (length past); generated = capped (suc generated) })
         (ended_by (outcome.Found plan) (length new.entries) (expanded + 1) more) (found_ending w.uncut turn (subst IsRegister h.same register) h.goal) w.limit h.same w.limit (ap Found h.plan_is)
         (λ i. record { states = length (h.same i).entries; expanded = (one_more expanded ∙ ap suc w.many) i; generated = counted i })
     ends_by outcome.Limit register h =
-        ended_so calls task cut first old.limit old new Limit (record { states = length old.entries; expanded = suc (length w.past); generated = capped (suc generated) })
+        ended_so calls task cut first (past ++ n ∷ []) old.limit old new Limit (record { states = length old.entries; expanded = suc (length past); generated = capped (suc generated) })
         (ended_by outcome.Limit (length new.entries) (expanded + 1) more) (full_ending w.uncut turn h.words (one_state task) h.state h.target h.no_goal h.unheld h.kept h.full) w.limit h.same w.limit refl
         (λ i. record { states = length (h.same i).entries; expanded = (one_more expanded ∙ ap suc w.many) i; generated = counted i })
     ends_by outcome.Unsolvable register h = absurd h
@@ -214,5 +213,5 @@ module _ {F : Type 0} (calls : Shared F (Bor (List ℕ) × Unit {0}) Bool) (task
     -- it ends here
     pub ends : (o : Outcome) (ended : Ended) → ended ≡ ended_by o (length new.entries) (expanded + 1) more →
         IsRegister new → Tries calls task cut old new n step {E = ℕ} (Ok (Some o)) →
-        IsGreedy calls task cut first new ended
-    ends o ended is register h = subst (λ (e : Ended). IsGreedy calls task cut first new e) (sym is) (ends_by o register h)
+        IsGreedyAfter calls task cut first (past ++ n ∷ []) new ended
+    ends o ended is register h = subst (λ (e : Ended). IsGreedyAfter calls task cut first (past ++ n ∷ []) new e) (sym is) (ends_by o register h)

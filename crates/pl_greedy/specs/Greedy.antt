@@ -9,6 +9,7 @@ use Rattle.pl_registry.specs.SearchRecord.{SearchRecord, IsRecordUpTo}
 use Rattle.pl_registry.specs.declared.ended.Ended.{Ended}
 use Rattle.pl_registry.specs.Ending.{IsEnding, ending_of}
 use Rattle.pl_registry.specs.Registered.{Register, entries_of}
+pub use Rattle.pl_registry.specs.Probes.{search_bound}
 use Rattle.pl_hooks.specs.Asked.{MayDrop, MayKeep}
 
 -- The search ended: how, and what it counted, is the ending of a record by the number of unmet goal literals, under the

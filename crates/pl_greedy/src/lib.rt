@@ -13,3 +13,6 @@ mod trying;
 
 pub use pl_registry::{Ended, Outcome, Stats};
 pub use searching::greedy;
+
+#[cfg(test)]
+mod tests;

@@ -1,9 +1,10 @@
 //! Greedy best-first search.
 
-ghost use Rattle.std.specs.Prelude.{◌≡◌, ◌≤◌, IfOk, IfErr};
+ghost use Rattle.std.specs.Prelude.{◌≡◌, ◌+◌, ◌≤◌, IfOk, IfErr};
+ghost use Rattle.pl_gen.specs.Walks.{AreAcyclic};
 ghost use Rattle.pl_registry.specs.Fresh.{IsFresh};
 ghost use Rattle.pl_hooks.specs.Sound.{IsSoundCut, IsUnmetCount};
-ghost use Rattle.pl_greedy.specs.Greedy.{IsGreedy, IsBrokenOff};
+ghost use Rattle.pl_greedy.specs.Greedy.{IsGreedy, IsBrokenOff, search_bound};
 
 use crate::attempting::admit;
 use crate::expanding::{ended, expand};
@@ -23,6 +24,8 @@ use std::sync::ledger::Ledger;
 /// registered. A goal state ends the search as soon as it is reached.
 ///
 /// The registry holds the initial state alone, and gives the limit on states. The only error is want of memory.
+///
+/// Where all schemas are acyclic it takes at most as many probes as the bounds of the expanded states come to.
 pub fn greedy<L: Ledger, F: Fn(&Packed) -> u32, G: Fn(&Packed) -> bool>(
     alloc: Global,
     normal: &NormalTask<'_>,
@@ -39,6 +42,9 @@ pub fn greedy<L: Ledger, F: Fn(&Packed) -> u32, G: Fn(&Packed) -> bool>(
     ensures ended { IfOk result (IsGreedy G.Fn normal.now pruner.now.cut registry.old registry.new) }
     ensures wanting { IfErr result (λ _.
         IsBrokenOff G.Fn normal.now pruner.now.cut registry.old registry.new) }
+    ensures cost { IfOk result (λ ended. AreAcyclic normal.now →
+        (search : IsGreedy G.Fn normal.now pruner.now.cut registry.old registry.new ended) →
+        steps.new ≤ steps.old + search_bound normal.now search.of) }
     ensures rise { steps.old ≤ steps.new }
 {
     let goal = GoalTest::of(alloc, normal.task())?;

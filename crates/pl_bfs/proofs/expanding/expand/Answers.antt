@@ -4,8 +4,10 @@ use Rattle.pl_task.specs.States.{IsStep}
 use Rattle.pl_state.specs.StateOf.{IsStateOf}
 use Rattle.pl_registry.specs.Registered.{Registered}
 use Rattle.pl_registry.specs.declared.ended.Ended.{Ended}
+use Rattle.pl_registry.proofs.Bounds.{kept_all, kept_on, begun_within}
+use Rattle.pl_gen.specs.Walks.{walk_reads}
 use Rattle.pl_bfs.proofs.Within.{all_steps, lent, given, tried_as, still_there, given_is_step, others_are_steps, begun, over, failed, onward, ends}
-use Rattle.pl_bfs.proofs.Bounds.{kept_all, kept_on, tried_keeps, begun_within}
+use Rattle.pl_bfs.proofs.Bounds.{tried_keeps}
 use Rattle.pl_bfs.proofs.expanding.expand.Goals as goal
 
 pub loop-step-init : goal.loop-step-init
@@ -16,7 +18,7 @@ loop-step-init g c =
       way = λ first h. begun g.F.Fn c.args.normal.now c.args.pruner.now.cut first c.args.n c.args.registry.now c.args.generated.now c.state.result.now c.in_ok-prepared.prepared
           c.walk-walk.result.left h c.requires.number c.state.ensures c.in_ok-prepared.ensures.prepared c.walk-walk.ensures.left;
       kept = kept_all c.args.registry.now;
-      cost = λ acyclic. begun_within c.args.normal.now c.args.registry.now c.args.n c.state.result.now c.in_ok-prepared.prepared _ _ _
+      cost = λ acyclic. begun_within c.args.normal.now c.args.registry.now c.args.n c.state.result.now _ _ (walk_reads c.in_ok-prepared.prepared) _
           c.state.ensures c.walk-walk.ensures.reads (c.in_ok-prepared.ensures.cost acyclic);
       rise = c.in_ok-prepared.ensures.rise;
     }

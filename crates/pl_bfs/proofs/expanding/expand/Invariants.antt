@@ -3,8 +3,9 @@ use Rattle.pl_task.specs.States.{IsStep}
 use Rattle.pl_normal.specs.Measures.{probe_bound}
 use Rattle.pl_gen.specs.Walks.{AreAcyclic}
 use Rattle.pl_registry.specs.Held.{state_at}
+use Rattle.pl_registry.specs.Probes.{KeepsEntries}
 use Rattle.pl_registry.specs.Registered.{Register}
-use Rattle.pl_bfs.specs.UnderWay.{IsBetween, IsWithin, KeepsEntries}
+use Rattle.pl_bfs.specs.UnderWay.{IsBetween, IsWithin}
 use Rattle.pl_bfs.proofs.expanding.expand.Given as goal
 
 -- the search is within the turn of entry n, whatever registry it began with

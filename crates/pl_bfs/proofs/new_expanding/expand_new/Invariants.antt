@@ -1,5 +1,9 @@
-use Rattle.std.proofs.Common.{◌<◌, ◌≤◌, ℕ, length, All}
+use Rattle.std.proofs.Common.{◌+◌, ◌<◌, ◌≤◌, ℕ, length, All}
 use Rattle.pl_task.specs.States.{IsStep}
+use Rattle.pl_normal.specs.Measures.{probe_bound}
+use Rattle.pl_gen.specs.Walks.{AreAcyclic}
+use Rattle.pl_registry.specs.Held.{state_at}
+use Rattle.pl_registry.specs.Probes.{KeepsEntries}
 use Rattle.pl_registry.specs.Registered.{Register}
 use Rattle.pl_bfs.specs.Sifting.{IsSiftedBetween, IsSiftedWithin}
 use Rattle.pl_bfs.proofs.new_expanding.expand_new.Given as goal
@@ -12,6 +16,9 @@ invariant-loop-step g l =
       steps : All (IsStep l.normal) l.walk.left;
       way : (k : ℕ) (first : Register) → IsSiftedBetween l.normal k first l.initial.registry l.n l.initial.generated l.initial.sieve
           → IsSiftedWithin l.normal k first l.registry l.n l.walk.left l.generated l.sieve;
+      kept : KeepsEntries l.initial.registry l.registry;
+      cost : AreAcyclic l.normal →
+          l.steps + l.walk.reads ≤ l.fn.steps + probe_bound l.normal (state_at l.normal l.initial.registry l.n);
       rise : l.fn.steps ≤ l.steps;
     }
 

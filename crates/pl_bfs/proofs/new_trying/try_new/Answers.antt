@@ -1,10 +1,17 @@
 use Rattle.std.proofs.Common.{inl, inr}
 use Rattle.pl_bfs.proofs.Trials.{state_held, few_objects}
+use Rattle.pl_bfs.proofs.Sifted.{follows_seen}
 use Rattle.pl_bfs.proofs.SiftedTrials.{left_out, taken_in, turned_away}
 use Rattle.pl_bfs.proofs.new_trying.try_new.Goals as goal
 
 pub apply-requires-clause-state : goal.apply-requires-clause-state
 apply-requires-clause-state c = state_held c.args.task.now c.args.registry.now c.args.n c.state.result.now c.requires.states c.requires.number c.state.ensures
+
+pub is_new-requires-clause-follows : goal.is_new-requires-clause-follows
+is_new-requires-clause-follows c =
+    let (k, notes) = c.requires.seen in
+    follows_seen c.args.task.now k c.args.registry.now c.args.sieve.now.novelty c.args.n (record { schema = c.args.step.schema; args = c.args.step.args.now }) c.state.result.now c.in_ok-next.next
+    c.state.ensures c.requires.number c.in_ok-next.ensures.state notes
 
 pub path_then-requires-clause-step : goal.path_then-requires-clause-step
 path_then-requires-clause-step c = few_objects c.args.task.now (record { schema = c.args.step.schema; args = c.args.step.args.now }) c.requires.step

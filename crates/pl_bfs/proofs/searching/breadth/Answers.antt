@@ -2,6 +2,7 @@ use Rattle.std.proofs.Common.{◌≡◌, ◌+◌, ◌∙◌, IfSome, ap, subst, 
 use Rattle.pl_registry.specs.declared.ended.Ended.{Ended}
 use Rattle.pl_bfs.proofs.Trials.{sound_for}
 use Rattle.pl_bfs.proofs.Whole.{wanting_from, found_first, cut_first, begins, turn_ends, next_turn, nearer, closed}
+use Rattle.pl_bfs.proofs.LeastFound.{least_ended}
 use Rattle.pl_bfs.proofs.Bounds.{turn_added, within_bound}
 use Rattle.pl_bfs.proofs.searching.breadth.Goals as goal
 
@@ -76,3 +77,23 @@ pub returns-clause-cost : goal.returns-clause-cost
 returns-clause-cost g c = λ acyclic search.
     within_bound g.F.Fn c.args.normal.now c.args.pruner.now.cut c.args.registry.now c.loop-n.registry c.ended-2.result _ _ c.loop-n.n
     (ap (λ (e : Ended). e.stats.expanded) c.ended-2.ensures.ended) (c.loop-n.invariant.cost acyclic) search
+
+pub returns-then-holds-clause-least : goal.returns-then-holds-clause-least
+returns-then-holds-clause-least g c =
+    least_ended g.F.Fn c.args.normal.now c.args.pruner.now.cut c.requires.sound c.args.registry.now
+    c.args.registry.now _ (returns-then-holds-clause-ended g c)
+
+pub returns-in-Some-clause-least : goal.returns-in-Some-clause-least
+returns-in-Some-clause-least g c =
+    least_ended g.F.Fn c.args.normal.now c.args.pruner.now.cut c.requires.sound c.args.registry.now
+    c.expand.new.registry c.in-Some.ended (returns-in-Some-clause-ended g c)
+
+pub returns-then-cut-clause-least : goal.returns-then-cut-clause-least
+returns-then-cut-clause-least g c =
+    least_ended g.F.Fn c.args.normal.now c.args.pruner.now.cut c.requires.sound c.args.registry.now
+    c.args.registry.now _ (returns-then-cut-clause-ended g c)
+
+pub returns-clause-least : goal.returns-clause-least
+returns-clause-least g c =
+    least_ended g.F.Fn c.args.normal.now c.args.pruner.now.cut c.requires.sound c.args.registry.now
+    c.loop-n.registry c.ended-2.result (returns-clause-ended g c)

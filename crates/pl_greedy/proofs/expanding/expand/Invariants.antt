@@ -1,6 +1,10 @@
-use Rattle.std.proofs.Common.{◌<◌, ◌≤◌, length, All}
+use Rattle.std.proofs.Common.{◌+◌, ◌<◌, ◌≤◌, ℕ, List, length, All}
 use Rattle.std.specs.BinaryHeap.{heap_items}
 use Rattle.pl_task.specs.States.{IsStep}
+use Rattle.pl_normal.specs.Measures.{probe_bound}
+use Rattle.pl_gen.specs.Walks.{AreAcyclic}
+use Rattle.pl_registry.specs.Held.{state_at}
+use Rattle.pl_registry.specs.Probes.{KeepsEntries}
 use Rattle.pl_registry.specs.Registered.{Register}
 use Rattle.pl_greedy.specs.UnderWay.{IsChosen, IsWithin}
 use Rattle.pl_greedy.proofs.expanding.expand.Given as goal
@@ -11,8 +15,12 @@ invariant-loop-step g l =
     record {
       number : l.n < length l.registry.entries;
       steps : All (IsStep l.normal) l.walk.left;
-      way : (first : Register) → IsChosen g.G.Fn l.normal l.pruner.cut first l.initial.registry (heap_items l.initial.waiting) l.n l.expanded l.initial.generated
-          → IsWithin g.G.Fn l.normal l.pruner.cut first l.registry (heap_items l.waiting) l.n l.walk.left l.expanded l.generated;
+      way : (first : Register) (past : List ℕ) →
+          IsChosen g.G.Fn l.normal l.pruner.cut first l.initial.registry past (heap_items l.initial.waiting) l.n l.expanded l.initial.generated →
+          IsWithin g.G.Fn l.normal l.pruner.cut first l.registry past (heap_items l.waiting) l.n l.walk.left l.expanded l.generated;
+      kept : KeepsEntries l.initial.registry l.registry;
+      cost : AreAcyclic l.normal →
+          l.steps + l.walk.reads ≤ l.fn.steps + probe_bound l.normal (state_at l.normal l.initial.registry l.n);
       rise : l.fn.steps ≤ l.steps;
     }
 
