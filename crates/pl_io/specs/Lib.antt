@@ -10,5 +10,7 @@ pub mod Numbered
 -- what the shelf and the sinks over the operating system show
 pub mod FileShelf
 pub mod Streams
+-- what a sink that takes everything shows
+pub mod SureSink
 -- what the functions inside the crate promise each other
 pub mod Places

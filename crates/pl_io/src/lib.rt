@@ -18,6 +18,7 @@ mod reading;
 mod shelf;
 mod sink;
 mod streams;
+mod sure_sink;
 #[cfg(test)]
 mod tests;
 mod tries;
@@ -33,3 +34,4 @@ pub use reading::{MAX_FILE_BYTES, read_whole};
 pub use shelf::Shelf;
 pub use sink::Sink;
 pub use streams::{ErrSink, OutSink};
+pub use sure_sink::SureSink;
