@@ -11,17 +11,19 @@ use Rattle.pl_task.specs.States.{initial}
 use Rattle.pl_valid.specs.declared.verdict.Verdict.{Verdict}
 use Rattle.pl_valid.specs.declared.verdict.Verdict.TheVariants.{Valid}
 use Rattle.pl_valid.specs.Verdict.{IsVerdict}
+use Rattle.pl_hooks.specs.Hopeless.{is_hopeless}
 use Rattle.pl_registry.specs.declared.ended.Stats.{Stats}
 use Rattle.pl_registry.specs.declared.search.Search.TheVariants as search
 use Rattle.pl_registry.specs.Ending.{Ending}
 use Rattle.pl_registry.specs.Ending.Ending.{Found, Unsolvable, Exhausted, Limit}
-use Rattle.pl_registry.proofs.SearchLaws.{endings_one, found_lists, has_ending, shortest}
+use Rattle.pl_registry.proofs.SearchLaws.{endings_one, found_lists, has_ending, least}
+use Rattle.pl_hooks.proofs.Cuts.{hopeless_dead_ends}
 use Rattle.pl_top.specs.Answer.{Outcome, IsMadeEnd, IsMadeOutcome, IsSummed, summary_outcome}
 use Rattle.pl_top.specs.Planning.{AreReachableWithin, IsMadeSettled, IsMadeTruthful, IsSummaryPut}
 use Rattle.pl_top.specs.Request.{no_plan_options}
-use Rattle.pl_top.specs.Searching.{IsSearched, cut_none, limit_of, search_of}
+use Rattle.pl_top.specs.Searching.{IsSearched, limit_of, search_of}
 use Rattle.pl_top.specs.Summary.{summary_text}
-use Rattle.pl_top.proofs.PlannedLemmas.{none_cut, no_plan_put, limit_put}
+use Rattle.pl_top.proofs.PlannedLemmas.{no_plan_put, limit_put}
 use Rattle.pl_top.proofs.VerdictLemmas.{verdict_from, verdict_only, verdict_holds}
 
 -- the statuses of a made task
@@ -46,7 +48,7 @@ module _ (task : Task) (out out' : SinkSeen) where
   summary_put : (plan : List Instance) (stats : Stats) (outcome : Outcome) → IsSearched task no_plan_options (Found plan) stats →
       IsSummed task plan stats outcome → Appends out.written out'.written outcome.text → IsSummaryPut task out out'
   summary_put plan stats outcome h end put =
-      let is_plan = found_lists task search.Bfs cut_none 1000000 h.of plan stats h.ends in
+      let is_plan = found_lists task search.Bfs (is_hopeless task) 1000000 h.of plan stats h.ends in
       let text : outcome.text ≡ summary_text task plan stats end.verdict = ap (λ (o : Outcome). o.text) end.comes in
       record {
         plan = plan;
@@ -54,7 +56,7 @@ module _ (task : Task) (out out' : SinkSeen) where
         put = subst (λ t. Appends out.written out'.written t)
             (text ∙ ap (summary_text task plan stats) (valid_only task plan end.verdict is_plan end.is_verdict)) put;
         is_plan = is_plan;
-        shortest = shortest task cut_none 1000000 h.of plan stats (none_cut task) h.ends;
+        least = least task (is_hopeless task) 1000000 h.of plan stats (hopeless_dead_ends task) h.ends;
       }
 
   -- what was printed of a made task is true
@@ -117,7 +119,7 @@ end_one task Limit stats outcome other h k = h ∙ sym k
 -- a made task has one outcome
 pub made_search_one : (task : Task) (outcome other : Outcome) → IsMadeOutcome task outcome → IsMadeOutcome task other → outcome ≡ other
 made_search_one task outcome other h k =
-    let one = endings_one task (search_of no_plan_options) (limit_of no_plan_options) cut_none h.searched.of k.searched.of h.ending
+    let one = endings_one task (search_of no_plan_options) (limit_of no_plan_options) (is_hopeless task) h.searched.of k.searched.of h.ending
     k.ending h.stats k.stats h.searched.ends k.searched.ends in
     end_one task k.ending k.stats outcome other
     (subst (λ e. IsMadeEnd task e k.stats outcome) one.1 (subst (λ (s : Stats). IsMadeEnd task h.ending s outcome) one.2 h.comes)) k.comes
@@ -139,7 +141,7 @@ end_there task Limit stats = (_, refl)
 -- a made task has an outcome
 pub made_search_there : (task : Task) → (outcome : Outcome) × IsMadeOutcome task outcome
 made_search_there task =
-    let (of, ending, stats, ends) = has_ending task cut_none (limit_of no_plan_options) (omega arith) in
+    let (of, ending, stats, ends) = has_ending task (is_hopeless task) (limit_of no_plan_options) (omega arith) in
     let end = end_there task ending stats in (
       end.0,
       record { ending = ending; stats = stats; searched = record { of = of; ends = ends }; comes = end.1 },

@@ -11,7 +11,9 @@ use Rattle.pl_task.specs.declared.plan.PlanLine.TheVariants as line
 use Rattle.pl_task.specs.declared.task.Task.{Task}
 use Rattle.pl_task.specs.Instance.{Instance}
 use Rattle.pl_task.specs.States.{IsStep}
+use Rattle.pl_hooks.specs.Hopeless.{is_hopeless}
 use Rattle.pl_registry.specs.declared.ended.Stats.{Stats}
+use Rattle.pl_registry.specs.declared.search.Search.TheVariants as search
 use Rattle.pl_registry.specs.Cut.{IsCut, IsKept}
 use Rattle.pl_registry.specs.declared.ended.Outcome.{Outcome as Answered}
 use Rattle.pl_registry.specs.Ending.{Ending, IsEnding, by_number, ending_of}
@@ -22,7 +24,7 @@ use Rattle.pl_registry.proofs.Entries.{expanded_registered}
 use Rattle.pl_registry.proofs.Plans.{next_tried}
 use Rattle.pl_top.specs.Answer.{IsMadeOutcome, IsSummed, search_outcome, summary_outcome}
 use Rattle.pl_top.specs.Request.{no_plan_options}
-use Rattle.pl_top.specs.Searching.{IsBreadthFirst, cut_none, ended_text, ending_status}
+use Rattle.pl_top.specs.Searching.{IsSearchedBy, ended_text, ending_status}
 use Rattle.pl_top.specs.Writing.{Writes, Finishes}
 use Rattle.pl_print.specs.Texts.{in_turn, verdict_text}
 use Rattle.pl_valid.specs.Verdict.{IsLineOf, IsVerdict}
@@ -41,11 +43,11 @@ path_short entries (suc n) (suc i) =
     (omega (arith, before))
 
 -- a plan that breadth-first search found has at most as many steps as states are registered
-pub few_found : (task : Task) (limit : ℕ) (plan : List Instance) (stats : Stats) → IsBreadthFirst task limit (Found plan) stats →
+pub few_found : (task : Task) (limit : ℕ) (plan : List Instance) (stats : Stats) → IsSearchedBy task search.Bfs limit (Found plan) stats →
     length plan ≤ limit
 few_found task limit plan stats h = by_case h.ends
   where
-    by_case : IsEnding (space_of task) (IsCut cut_none) (IsKept cut_none) by_number limit h.of (Found plan) stats → length plan ≤ limit
+    by_case : IsEnding (space_of task) (IsCut (is_hopeless task)) (IsKept (is_hopeless task)) by_number limit h.of (Found plan) stats → length plan ≤ limit
     by_case (inl (goal, empty, once)) = (let none = ap length empty in omega (arith, none))
     by_case (inr (uncut, found)) =
         let (turn, of) = next_tried found.next in
@@ -57,7 +59,7 @@ few_found task limit plan stats h = by_case h.ends
 
 -- the summary of a plan that was found is the outcome
 pub found_made : (task : Task) (plan : List Instance) (stats : Stats) (out out' err err' : SinkSeen) (result : ℕ) →
-    IsBreadthFirst task 1000000 (Found plan) stats → Finishes (IsSummed task plan stats) out out' err err' result →
+    IsSearchedBy task search.Bfs 1000000 (Found plan) stats → Finishes (IsSummed task plan stats) out out' err err' result →
     Finishes (IsMadeOutcome task) out out' err err' result
 found_made task plan stats out out' err err' result h =
     finishes_weaker out out' err err' result (IsSummed task plan stats) (IsMadeOutcome task)
@@ -65,19 +67,12 @@ found_made task plan stats out out' err err' result h =
 
 -- what the search has answered is its ending
 pub ended_so : (task : Task) (answered : Answered) (ending : Ending) (stats : Stats) → ending_of answered ≡ ending →
-    IsBreadthFirst task 1000000 (ending_of answered) stats → IsBreadthFirst task 1000000 ending stats
-ended_so task answered ending stats is = subst (λ e. IsBreadthFirst task 1000000 e stats) is
-
-pub written_so : (task : Task) (answered : Answered) (ending : Ending) (stats : Stats) (out out' err err' : SinkSeen) (result : ℕ) →
-    ending_of answered ≡ ending →
-    Writes (ended_text task 1000000 false (ending_of answered) stats) (ending_status (ending_of answered)) out out' err err' result →
-    Writes (ended_text task 1000000 false ending stats) (ending_status ending) out out' err err' result
-written_so task answered ending stats out out' err err' result is =
-    subst (λ e. Writes (ended_text task 1000000 false e stats) (ending_status e) out out' err err' result) is
+    IsSearchedBy task search.Bfs 1000000 (ending_of answered) stats → IsSearchedBy task search.Bfs 1000000 ending stats
+ended_so task answered ending stats is = subst (λ e. IsSearchedBy task search.Bfs 1000000 e stats) is
 
 -- a search without a plan ends as that of `plan`
 pub unsolvable_made : (task : Task) (stats : Stats) (out out' err err' : SinkSeen) (result : ℕ) →
-    IsBreadthFirst task 1000000 Unsolvable stats →
+    IsSearchedBy task search.Bfs 1000000 Unsolvable stats →
     Writes (ended_text task 1000000 false Unsolvable stats) (ending_status Unsolvable) out out' err err' result →
     Finishes (IsMadeOutcome task) out out' err err' result
 unsolvable_made task stats out out' err err' result h writes = inl (record {
@@ -89,7 +84,7 @@ unsolvable_made task stats out out' err err' result h writes = inl (record {
 })
 
 pub limited_made : (task : Task) (stats : Stats) (out out' err err' : SinkSeen) (result : ℕ) →
-    IsBreadthFirst task 1000000 Limit stats →
+    IsSearchedBy task search.Bfs 1000000 Limit stats →
     Writes (ended_text task 1000000 false Limit stats) (ending_status Limit) out out' err err' result →
     Finishes (IsMadeOutcome task) out out' err err' result
 limited_made task stats out out' err err' result h writes = inl (record {

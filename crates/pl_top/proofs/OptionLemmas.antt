@@ -7,9 +7,9 @@ use Rattle.std.specs.Str.{bytes_eq}
 use Rattle.pl_make.specs.declared.kind.Kind.{Kind}
 use Rattle.pl_make.specs.declared.kind.Kind.TheVariants.{Hop, Wide}
 use Rattle.pl_make.specs.Texts.{IsSize}
-use Rattle.pl_registry.specs.declared.search.Search.TheVariants as search
-use Rattle.pl_top.specs.Request.{Request, Options, PlanOptions, Successors, FindPlan, Make, count_of, is_file_name, is_limit, is_size, kind_of, limit_within, made_from, made_of, make_of, no_options, no_plan_options, plan_of, request_of, size_within, start_of, successors_of, validate_of, with_all, with_each, with_limit, with_search, with_stats, with_value}
-use Rattle.pl_top.specs.Searching.{CanRun, limit_of, search_of}
+use Rattle.pl_registry.specs.declared.search.Search.{Search}
+use Rattle.pl_top.specs.Request.{Request, Options, PlanOptions, Successors, FindPlan, Make, count_of, is_file_name, is_limit, is_size, kind_of, limit_within, made_from, made_of, make_of, no_options, no_plan_options, plan_of, request_of, search_named, size_within, start_of, successors_of, validate_of, with_all, with_each, with_limit, with_search, with_stats, with_value}
+use Rattle.pl_top.specs.Searching.{CanRun, limit_of}
 use Rattle.pl_top.proofs.RequestLemmas.{at_place, two_places}
 
 -- no word changes nothing, and refused options stay refused
@@ -70,7 +70,7 @@ last_alone words i name old here test one =
 -- ---- a request that words are can run
 
 abbrev IsWithin : PlanOptions → Type 0
-IsWithin options = (search_of options ≡ search.Bfs) × (1 ≤ limit_of options) × (limit_of options < 2 ^ 32 - 1)
+IsWithin options = (1 ≤ limit_of options) × (limit_of options < 2 ^ 32 - 1)
 
 abbrev Fits : Option PlanOptions → Type 0
 Fits None = ⊤
@@ -84,12 +84,12 @@ fits_stats : (options : PlanOptions) → IsWithin options → Fits (with_stats o
 fits_stats options h = fits_cond options.stats None _ tt h
 
 fits_search : (options : PlanOptions) (word : List ℕ) → IsWithin options → Fits (with_search options word)
-fits_search options word h = fits_cond (is_some options.search) None _ tt (by_name (bytes_eq word (codes "bfs")))
+fits_search options word h = fits_cond (is_some options.search) None _ tt (by_name (search_named word))
   where
-    by_name : (b : Bool) → Fits (option_map (λ s. record { search = Some s; limit = options.limit; stats = options.stats })
-        (cond b (Some search.Bfs) None))
-    by_name true = (refl, h.1, h.2)
-    by_name false = tt
+    by_name : (found : Option Search) →
+        Fits (option_map (λ s. record { search = Some s; limit = options.limit; stats = options.stats }) found)
+    by_name None = tt
+    by_name (Some by) = h
 
 -- a number that can be a limit
 limit_fits : (options : PlanOptions) (n : Option ℕ) → IsWithin options →
@@ -101,7 +101,7 @@ limit_fits options (Some n) h = by_test (is_limit n) refl
         Fits (option_map (λ l. record { search = options.search; limit = Some l; stats = options.stats }) (cond b (Some n) None))
     by_test true is =
         (let parts = and_parts (nat_le 1 n) (nat_le n 4294967294) is in
-        (h.0, leb-true 1 n parts.0, omega (arith, leb-true n 4294967294 parts.1)))
+        (leb-true 1 n parts.0, omega (arith, leb-true n 4294967294 parts.1)))
     by_test false is = tt
 
 fits_limit : (options : PlanOptions) (word : List ℕ) → IsWithin options → Fits (with_limit options word)
@@ -153,7 +153,7 @@ plan_runs [] = tt
 plan_runs (a ∷ []) = tt
 plan_runs (a ∷ b ∷ words) =
     all_cond (is_file_name a && is_file_name b) _ None
-    (all_planned a b (with_each words (Some no_plan_options)) (fits_each words (Some no_plan_options) (refl, omega arith, omega arith))) tt
+    (all_planned a b (with_each words (Some no_plan_options)) (fits_each words (Some no_plan_options) (omega arith, omega arith))) tt
 
 -- a size that is one of the kind
 pub size_fits : (kind : Kind) (n : ℕ) → is_size kind n ≡ true → IsSize kind n

@@ -8,15 +8,14 @@ use Rattle.pl_check.specs.Laws.{FirstFaultIsOne, TaskIsOne, HaveFirstFault, Have
 use Rattle.pl_check.specs.declared.role.FileRole.{FileRole}
 use Rattle.pl_check.specs.declared.role.FileRole.TheVariants.{Domain, Problem, Plan}
 use Rattle.pl_valid.specs.Verdict.{IsVerdict}
+use Rattle.pl_hooks.specs.Hopeless.{is_hopeless}
 use Rattle.pl_top.specs.Answer.{Outcome, Reading, IsMadeOutcome, Absent, Overlong, Whole, reading_of, GoesOn, IsRead, IsPlanRead, IsFaultOfPlan, IsVerdictOn, IsJudged, IsListed, IsPlanned, IsSearchOutcome, IsMadeOf, search_outcome, cannot_read, too_long, bytes_of, faulty, verdict_outcome}
 use Rattle.pl_top.specs.Laws.{OutcomeIsOne, OutcomeIsThere}
-use Rattle.pl_registry.specs.declared.search.Search.TheVariants as search
-use Rattle.pl_registry.specs.Ending.{IsEndingOf}
-use Rattle.pl_registry.proofs.SearchLaws.{endings_one, has_ending}
+use Rattle.pl_registry.proofs.SearchLaws.{endings_one, all_have_ending}
 use Rattle.pl_make.specs.Texts.{domain_text, problem_text}
 use Rattle.pl_make.proofs.Lengths.{domain_text-short, problem_text-short}
 use Rattle.pl_top.specs.Request.{PlanOptions, Validate, Successors, FindPlan, Make}
-use Rattle.pl_top.specs.Searching.{cut_none, limit_of, search_of}
+use Rattle.pl_top.specs.Searching.{limit_of, search_of}
 use Rattle.pl_top.proofs.MadeLemmas.{made_search_one, made_search_there}
 use Rattle.pl_top.proofs.ListedLemmas.{IsShort, listed_one, listed_there}
 use Rattle.pl_top.proofs.VerdictLemmas.{verdict_from, verdict_only, verdict_holds}
@@ -93,7 +92,7 @@ module _ (first_one : FirstFaultIsOne) (task_one : TaskIsOne) (excludes_task : F
   search_one : (task : Task) (options : PlanOptions) (outcome other : Outcome) → IsSearchOutcome task options outcome →
       IsSearchOutcome task options other → outcome ≡ other
   search_one task options outcome other h k =
-      let one = endings_one task (search_of options) (limit_of options) cut_none h.searched.of k.searched.of h.ending k.ending
+      let one = endings_one task (search_of options) (limit_of options) (is_hopeless task) h.searched.of k.searched.of h.ending k.ending
       h.stats k.stats h.searched.ends k.searched.ends in
       h.comes ∙ ap (λ e. search_outcome task options e h.stats) one.1
       ∙ ap (search_outcome task options k.ending) one.2 ∙ sym k.comes
@@ -235,11 +234,11 @@ module _ (fault_or_task : FaultOrTask) (fault_or_lines : FaultOrLines) (excludes
       )
       by_files (inr has) = plan_there domain problem plan has lle
 
-  -- two files that are read whole give an outcome, where there is a search
+  -- two files that are read whole give an outcome
   planned_there : (domain problem : List ℕ) (options : PlanOptions) → length domain ≤ most_file_bytes →
-      length problem ≤ most_file_bytes → search_of options ≡ search.Bfs → 1 ≤ limit_of options →
+      length problem ≤ most_file_bytes → 1 ≤ limit_of options →
       (outcome : Outcome) × IsPlanned domain problem options outcome
-  planned_there domain problem options dle ple bfs some = by_files (fault_or_task domain problem dle ple)
+  planned_there domain problem options dle ple some = by_files (fault_or_task domain problem dle ple)
     where
       by_files : HaveFirstFault domain problem ⊎ HaveTask domain problem → (outcome : Outcome) × IsPlanned domain problem options outcome
       by_files (inl faulted) = (
@@ -247,7 +246,7 @@ module _ (fault_or_task : FaultOrTask) (fault_or_lines : FaultOrLines) (excludes
         inl (record { found = faulted.0; is_first = faulted.1; comes = refl }),
       )
       by_files (inr has) =
-          (let (of, ending, stats, ends) = has_ending has.0 cut_none (limit_of options) some in (
+          (let (of, ending, stats, ends) = all_have_ending has.0 (search_of options) (is_hopeless has.0) (limit_of options) some in (
             search_outcome has.0 options ending stats,
             inr (record {
               task = has.0;
@@ -255,10 +254,7 @@ module _ (fault_or_task : FaultOrTask) (fault_or_lines : FaultOrLines) (excludes
               planned = record {
                 ending = ending;
                 stats = stats;
-                searched = record {
-                  of = of;
-                  ends = subst (λ by. IsEndingOf has.0 cut_none by (limit_of options) of ending stats) (sym bfs) ends;
-                };
+                searched = record { of = of; ends = ends };
                 comes = refl;
               };
             }),
@@ -291,6 +287,6 @@ module _ (fault_or_task : FaultOrTask) (fault_or_lines : FaultOrLines) (excludes
       options.count dle ple lle)))
   outcome_there (FindPlan domain problem options) files place runs =
       read_there files place domain Domain _
-      (λ d dle. read_there files place problem Problem _ (λ p ple. planned_there d p options dle ple runs.0 runs.1))
+      (λ d dle. read_there files place problem Problem _ (λ p ple. planned_there d p options dle ple runs.0))
   outcome_there (Make kind n start) files place runs =
       made_there (domain_text kind) (problem_text kind n start) (domain_text-short kind) (problem_text-short kind n start runs)

@@ -1,5 +1,5 @@
 -- How a search ended, and what is printed of that.
-use Rattle.std.proofs.Common.{◌≡◌, ◌≢◌, ℕ, Bool, List, [], ◌∷◌, ◌++◌, flat_map, Option, Some, None, All, inl, refl, sym, subst}
+use Rattle.std.proofs.Common.{◌≡◌, ◌≢◌, ℕ, Bool, List, [], ◌∷◌, ◌++◌, flat_map, All, inl, refl, subst}
 use Rattle.std.specs.Option.{option_map}
 use Rattle.std.proofs.lemmas.List.Elements.{All-nil, All-cons}
 use Rattle.pl_io.specs.Outside.{SinkSeen}
@@ -8,19 +8,17 @@ use Rattle.pl_task.specs.Instance.{Instance}
 use Rattle.pl_task.specs.States.{State, IsStep, result_of, initial}
 use Rattle.pl_task.specs.Plans.{Executes}
 use Rattle.pl_task.proofs.TypeLemmas.{applicable_step}
+use Rattle.pl_hooks.specs.Hopeless.{is_hopeless}
 use Rattle.pl_registry.specs.declared.ended.Stats.{Stats}
-use Rattle.pl_registry.specs.declared.search.Search.TheVariants as search
-use Rattle.pl_registry.specs.Cut.{IsCut, IsKept}
-use Rattle.pl_registry.specs.Ending.{Ending, IsEndingOf, by_number}
+use Rattle.pl_registry.specs.declared.search.Search.{Search}
+use Rattle.pl_registry.specs.Ending.{Ending, IsEndingOf}
 use Rattle.pl_registry.specs.Ending.Ending.{Found, Unsolvable, Exhausted, Limit}
-use Rattle.pl_registry.proofs.Endings.{found_is_plan}
+use Rattle.pl_registry.proofs.SearchLaws.{found_lists}
 use Rattle.pl_print.specs.Texts.{step_text}
-use Rattle.pl_top.specs.declared.plan_options.Kind.{Kind}
-use Rattle.pl_top.specs.declared.plan_options.Kind.TheVariants as kinds
 use Rattle.pl_top.specs.declared.plan_options.PlanOptions.{PlanOptions as AskedOptions}
 use Rattle.pl_top.specs.Answer.{IsSearchOutcome, search_outcome}
 use Rattle.pl_top.specs.Asked.{kind_named, plan_options_named}
-use Rattle.pl_top.specs.Searching.{AreStepsOf, IsBreadthFirst, cut_none, ended_text, ending_status, ending_text, counts_text, limit_or_default, search_or_bfs}
+use Rattle.pl_top.specs.Searching.{AreStepsOf, IsSearchedBy, ended_text, ending_status, ending_text, counts_text, limit_or_default, search_or_bfs}
 use Rattle.pl_top.specs.Writing.{Writes, Finishes}
 
 -- steps that are executed are steps of the task
@@ -29,14 +27,15 @@ executed_steps task s last [] h = All-nil (IsStep task)
 executed_steps task s last (step ∷ steps) h =
     All-cons (IsStep task) step steps (applicable_step task s step h.0) (executed_steps task (result_of task s step) last steps h.1)
 
--- a plan that breadth-first search found is of steps of the task
-pub steps_of : (task : Task) (limit : ℕ) (ending : Ending) (stats : Stats) → IsBreadthFirst task limit ending stats → AreStepsOf task ending
-steps_of task limit (Found plan) stats h =
-    let is = found_is_plan task (IsCut cut_none) (IsKept cut_none) by_number limit h.of stats plan h.ends in
-    executed_steps task (initial task) is.0 plan is.1
-steps_of task limit Unsolvable stats h = tt
-steps_of task limit Exhausted stats h = tt
-steps_of task limit Limit stats h = tt
+-- a plan that a search found is of steps of the task
+pub steps_of : (task : Task) (by : Search) (limit : ℕ) (ending : Ending) (stats : Stats) → IsSearchedBy task by limit ending stats →
+    AreStepsOf task ending
+steps_of task by limit (Found plan) stats h =
+    let (last, executed, goal) = found_lists task by (is_hopeless task) limit h.of plan stats h.ends in
+    executed_steps task (initial task) last plan executed
+steps_of task by limit Unsolvable stats h = tt
+steps_of task by limit Exhausted stats h = tt
+steps_of task by limit Limit stats h = tt
 
 -- what has a byte behind a text has one
 behind : (xs ys rest : List ℕ) (y : ℕ) → ys ≡ y ∷ rest → xs ++ ys ≢ []
@@ -66,26 +65,22 @@ status_other Unsolvable four = cc four
 status_other Exhausted four = cc four
 status_other Limit four = cc four
 
--- the only search that is asked for
-pub only_bfs : (kind : Option Kind) → search_or_bfs (option_map kind_named kind) ≡ search.Bfs
-only_bfs None = refl
-only_bfs (Some kinds.Bfs) = refl
-
 -- an ending that was printed is that of the search that the options name
-pub solved : (task : Task) (options : AskedOptions) (limit : ℕ) (ending : Ending) (stats : Stats)
-    (out out' err err' : SinkSeen) (result : ℕ) → limit ≡ limit_or_default options.limit
-    → IsBreadthFirst task limit ending stats
+pub solved : (task : Task) (options : AskedOptions) (by : Search) (limit : ℕ) (ending : Ending) (stats : Stats)
+    (out out' err err' : SinkSeen) (result : ℕ) → by ≡ search_or_bfs (option_map kind_named options.search)
+    → limit ≡ limit_or_default options.limit
+    → IsSearchedBy task by limit ending stats
     → Writes (ended_text task limit options.stats ending stats) (ending_status ending) out out' err err' result
     → Finishes (IsSearchOutcome task (plan_options_named options)) out out' err err' result
-solved task options limit ending stats out out' err err' result is h writes = inl (record {
+solved task options by limit ending stats out out' err err' result named is h writes = inl (record {
   outcome = search_outcome task (plan_options_named options) ending stats;
   is = record {
     ending = ending;
     stats = stats;
     searched = record {
       of = h.of;
-      ends = subst (λ by. IsEndingOf task cut_none by (limit_or_default options.limit) h.of ending stats) (sym (only_bfs options.search))
-          (subst (λ l. IsEndingOf task cut_none search.Bfs l h.of ending stats) is h.ends);
+      ends = subst (λ (s : Search). IsEndingOf task (is_hopeless task) s (limit_or_default options.limit) h.of ending stats) named
+          (subst (λ l. IsEndingOf task (is_hopeless task) by l h.of ending stats) is h.ends);
     };
     comes = refl;
   };

@@ -4,22 +4,23 @@ use Rattle.std.specs.Io.KnownBytes.{Appends}
 use Rattle.pl_io.specs.Outside.{SinkSeen}
 use Rattle.pl_task.specs.declared.task.Task.{Task}
 use Rattle.pl_task.specs.Instance.{Instance}
+use Rattle.pl_hooks.specs.Hopeless.{is_hopeless}
 use Rattle.pl_registry.specs.declared.ended.Stats.{Stats}
 use Rattle.pl_registry.specs.declared.search.Search.{Search}
 use Rattle.pl_registry.specs.declared.search.Search.TheVariants as search
 use Rattle.pl_registry.specs.Ending.{Ending, IsEndingOf}
 use Rattle.pl_registry.specs.Ending.Ending.{Found, Unsolvable, Exhausted, Limit}
-use Rattle.pl_registry.specs.Laws.{CutsDeadEnds}
 use Rattle.pl_registry.specs.SearchRecord.{SearchRecord}
-use Rattle.pl_registry.proofs.SearchLaws.{found_lists, unsolvable_ones, limits, shortest}
+use Rattle.pl_registry.proofs.SearchLaws.{found_lists, unsolvable_ones, limits, least}
+use Rattle.pl_hooks.proofs.Cuts.{hopeless_dead_ends}
 use Rattle.pl_top.specs.Planning.{AreReachableWithin, IsLimitPut, IsNoPlanPut, IsPlanPut, IsSettled, IsTruthful}
 use Rattle.pl_top.specs.Request.{PlanOptions}
 use Rattle.pl_top.specs.Run.{IsWidthSearch}
-use Rattle.pl_top.specs.Searching.{IsSearched, cut_none, ending_status, limit_of, search_of, search_text}
+use Rattle.pl_top.specs.Searching.{IsSearched, ending_status, limit_of, search_of, search_text}
 
 -- only a width search is exhausted
 exhausted_width : (task : Task) (by : Search) (limit : ℕ) (r : SearchRecord) (stats : Stats) →
-    IsEndingOf task cut_none by limit r Exhausted stats → IsWidthSearch by
+    IsEndingOf task (is_hopeless task) by limit r Exhausted stats → IsWidthSearch by
 exhausted_width task search.Bfs limit r stats h = h
 exhausted_width task search.Gbfs limit r stats h = h
 exhausted_width task search.Iw1 limit r stats h = tt
@@ -35,10 +36,6 @@ ending_has_status task options Exhausted stats h =
     inr (inr (inr (exhausted_width task (search_of options) (limit_of options) h.of stats h.ends, refl)))
 ending_has_status task options Limit stats h = inr (inr (inl refl))
 
--- no state that is cut reaches a goal, where none is cut
-pub none_cut : (task : Task) → CutsDeadEnds task cut_none
-none_cut task s gone = cc gone
-
 module _ (task : Task) (options : PlanOptions) (out out' : SinkSeen) where
   plan_put : (plan : List Instance) (stats : Stats) → IsSearched task options (Found plan) stats →
       Appends out.written out'.written (search_text task options (Found plan) stats) → IsPlanPut task options out out'
@@ -46,9 +43,9 @@ module _ (task : Task) (options : PlanOptions) (out out' : SinkSeen) where
     plan = plan;
     stats = stats;
     put = put;
-    is_plan = found_lists task (search_of options) cut_none (limit_of options) h.of plan stats h.ends;
-    shortest = λ bfs. shortest task cut_none (limit_of options) h.of plan stats (none_cut task)
-        (subst (λ by. IsEndingOf task cut_none by (limit_of options) h.of (Found plan) stats) bfs h.ends);
+    is_plan = found_lists task (search_of options) (is_hopeless task) (limit_of options) h.of plan stats h.ends;
+    least = λ bfs. least task (is_hopeless task) (limit_of options) h.of plan stats (hopeless_dead_ends task)
+        (subst (λ by. IsEndingOf task (is_hopeless task) by (limit_of options) h.of (Found plan) stats) bfs h.ends);
   }
 
   pub no_plan_put : (stats : Stats) → IsSearched task options Unsolvable stats →
@@ -56,13 +53,13 @@ module _ (task : Task) (options : PlanOptions) (out out' : SinkSeen) where
   no_plan_put stats h put = record {
     stats = stats;
     put = put;
-    no_plan = unsolvable_ones task (search_of options) cut_none (limit_of options) h.of stats (none_cut task) h.ends;
+    no_plan = unsolvable_ones task (search_of options) (is_hopeless task) (limit_of options) h.of stats (hopeless_dead_ends task) h.ends;
   }
 
   pub limit_put : (stats : Stats) → IsSearched task options Limit stats →
       Appends out.written out'.written (search_text task options Limit stats) → IsLimitPut task options out out'
   limit_put stats h put =
-      let (states, more, differ, reachable) = limits task (search_of options) cut_none (limit_of options) h.of stats h.ends in
+      let (states, more, differ, reachable) = limits task (search_of options) (is_hopeless task) (limit_of options) h.of stats h.ends in
       record { stats = stats; put = put; states = states; more = more; differ = differ; reachable = reachable }
 
   -- what was printed of an ending is true
@@ -93,11 +90,11 @@ module _ (task : Task) (options : PlanOptions) (out out' : SinkSeen) where
   -- where few states are reachable it is settled whether a plan exists
   pub settled : (ending : Ending) (stats : Stats) (result : ℕ) → IsSearched task options ending stats →
       Appends out.written out'.written (search_text task options ending stats) → result ≡ ending_status ending →
-      AreReachableWithin task (limit_of options) → (IsWidthSearch (search_of options) → ⊥) → IsSettled task options out out' result
-  settled (Found plan) stats result h put is within no_width = inl (is, plan_put plan stats h put)
-  settled Unsolvable stats result h put is within no_width = inr (is, no_plan_put stats h put)
-  settled Exhausted stats result h put is within no_width =
-      absurd (no_width (exhausted_width task (search_of options) (limit_of options) h.of stats h.ends))
-  settled Limit stats result h put is within no_width =
+      AreReachableWithin task (limit_of options) → IsSettled task options out out' result
+  settled (Found plan) stats result h put is within = inl (is, plan_put plan stats h put)
+  settled Unsolvable stats result h put is within = inr (inl (is, no_plan_put stats h put))
+  settled Exhausted stats result h put is within =
+      inr (inr (exhausted_width task (search_of options) (limit_of options) h.of stats h.ends, is))
+  settled Limit stats result h put is within =
       let passed = limit_put stats h put in
       absurd (omega (arith, passed.more, within passed.states passed.differ passed.reachable))

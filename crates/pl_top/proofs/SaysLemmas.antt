@@ -10,8 +10,8 @@ use Rattle.pl_task.specs.declared.task.Task.{Task}
 use Rattle.pl_top.specs.Answer.{Outcome, Reading, Absent, Overlong, Whole, IsReadingOf, GoesOn, IsRead, IsAnswer, IsPlanned, IsTaskPlanned, IsSearchOutcome}
 use Rattle.pl_top.specs.Planning.{AreReachableWithin, IfSays, IsDecisive, IsOfTask, IsSettled, SaysOfTask}
 use Rattle.pl_top.specs.Request.{Request, PlanOptions, Validate, Successors, FindPlan, Make}
-use Rattle.pl_top.specs.Run.{Ending, RunEnds, IsCause, IsWritten, IsWidthSearch, status_of, Answered, StoppedReading, StoppedWriting, OutOfMemory}
-use Rattle.pl_top.specs.Searching.{limit_of, search_of, search_text}
+use Rattle.pl_top.specs.Run.{Ending, RunEnds, IsCause, IsWritten, status_of, Answered, StoppedReading, StoppedWriting, OutOfMemory}
+use Rattle.pl_top.specs.Searching.{limit_of, search_text}
 use Rattle.pl_top.proofs.PlannedLemmas.{truth_of, settled}
 use Rattle.pl_top.proofs.MadeRunLemmas.{says_nothing, made_says, made_decides}
 use Rattle.pl_top.proofs.RunLemmas.{read_whole}
@@ -91,19 +91,19 @@ run_says (Make kind n start) shelf shelf' out out' err err' result h =
 planned_settled : TaskIsOne → (domain problem : List ℕ) (options : PlanOptions) (out out' : SinkSeen) (result : ℕ) (outcome : Outcome)
     → result ≡ outcome.status → Appends out.written out'.written outcome.text
     → (task : Task) → AreStated domain problem task → AreReachableWithin task (limit_of options)
-    → (IsWidthSearch (search_of options) → ⊥) → IsTaskPlanned domain problem options outcome
+    → IsTaskPlanned domain problem options outcome
     → IsSettled task options out out' result
-planned_settled task_one domain problem options out out' result outcome status put task stated within no_width h =
+planned_settled task_one domain problem options out out' result outcome status put task stated within h =
     let same = task_one domain problem h.task task h.stated stated in
     let searched : IsSearchOutcome task options outcome = subst (λ t. IsSearchOutcome t options outcome) same h.planned in
     settled task options out out' searched.ending searched.stats result searched.searched
-    (text_of task options out out' outcome put searched) (status ∙ ap (λ (o : Outcome). o.status) searched.comes) within no_width
+    (text_of task options out out' outcome put searched) (status ∙ ap (λ (o : Outcome). o.status) searched.comes) within
 
 -- without a fault, and with few reachable states, a run of `plan` settles whether a plan exists, or memory ran out
 plan_decides : TaskIsOne → (domain problem : List ℕ) (options : PlanOptions) (shelf shelf' : ShelfSeen) (out out' err err' : SinkSeen) (result : ℕ)
     → RunEnds (FindPlan domain problem options) shelf shelf' out out' err err' result
     → IsDecisive (FindPlan domain problem options) shelf shelf' out out' result
-plan_decides task_one domain problem options shelf shelf' out out' err err' result h files is told readable writable task stated within no_width =
+plan_decides task_one domain problem options shelf shelf' out out' err err' result h files is told readable writable task stated within =
     by_ending h.ending h.cause h.status h.text
   where
     by_plan : (outcome : Outcome) → result ≡ outcome.status → Appends out.written out'.written outcome.text
@@ -111,7 +111,7 @@ plan_decides task_one domain problem options shelf shelf' out out' err err' resu
     by_plan outcome status put (inl f) = absurd (told.no_input_fault f.found f.is_first)
     by_plan outcome status put (inr p) =
         inl (planned_settled task_one told.domain_bytes told.problem_bytes options out out' result outcome status put task stated within
-        no_width p)
+        p)
 
     by_ending : (ending : Ending) → IsCause (FindPlan domain problem options) shelf shelf' out out' ending → result ≡ status_of ending
         → IsWritten ending out out' → IsSettled task options out out' result ⊎ (result ≡ 8)

@@ -1,6 +1,7 @@
 -- How many probes the parts of a run take.
-use Rattle.std.proofs.Common.{◌≡◌, ℕ, ◌≤◌, ◌+◌, Bool, true, List, Option, Result, Ok, Err, IfOk, Bor, inl, inr, sym, ap, subst, arith}
+use Rattle.std.proofs.Common.{◌≡◌, ℕ, ◌≤◌, ◌+◌, Bool, true, List, Option, Result, Ok, Err, IfOk, Bor, inl, inr, ap, sym, subst, arith}
 use Rattle.std.specs.Fn.{FnReturnsAt}
+use Rattle.std.specs.Option.{option_map}
 use denote.Param.Members.{Shared}
 use Rattle.pl_io.specs.Outside.{ShelfSeen}
 use Rattle.pl_io.specs.Outside.{SinkSeen}
@@ -18,26 +19,29 @@ use Rattle.pl_registry.specs.declared.search.Search.{Search}
 use Rattle.pl_registry.specs.declared.search.Search.TheVariants as search
 use Rattle.pl_registry.specs.Ending.{ending_of}
 use Rattle.pl_registry.specs.Registered.{Register}
+use Rattle.pl_hooks.specs.Sound.{IsHopelessCut}
 use Rattle.pl_bfs.specs.Breadth.{IsBreadth, search_bound}
+use Rattle.pl_bfs.specs.Width.{IsWidth, ending_of_width}
+use Rattle.pl_bfs.specs.declared.width_ended.WidthEnded.{WidthEnded}
+use Rattle.pl_greedy.specs.Greedy.{IsGreedy}
 use Rattle.pl_top.specs.declared.plan_options.PlanOptions.{PlanOptions as AskedOptions}
 use Rattle.pl_top.specs.declared.refusal.Refusal.{Refusal}
 use Rattle.pl_top.specs.declared.refusal.Refusal.TheVariants.{CannotRead, TooLong, Input, NotAStep, Memory}
 use Rattle.pl_top.specs.declared.starting.Start.{Start}
 use Rattle.pl_top.specs.Answer.{Whole, IsReadingOf, verdict_status}
-use Rattle.pl_top.specs.Asked.{plan_options_named}
+use Rattle.pl_top.specs.Asked.{kind_named, plan_options_named}
 use Rattle.pl_top.specs.Planning.{IsOfTask}
 use Rattle.pl_top.specs.Reaching.{AreExecuted, IsRefusedBy}
 use Rattle.pl_top.specs.Refusal.{status_of, IsPlanWhole}
 use Rattle.pl_top.specs.Request.{Options, PlanOptions}
-use Rattle.pl_top.specs.Searching.{limit_of, limit_or_default, search_of}
+use Rattle.pl_top.specs.Searching.{IsOfWidth, limit_of, limit_or_default, search_of, search_or_bfs}
 use Rattle.pl_top.specs.Starting.{IsStartRead, IsStartStated}
-use Rattle.pl_top.specs.Work.{IsTaskRead, IsSearchWithin, IsPlanWithin, IsMadeWithin, IsWalkWithin, IsListWithin}
+use Rattle.pl_top.specs.Work.{IsTaskRead, IsSearchEnded, IsSearchWithin, IsPlanWithin, IsMadeWithin, IsWalkWithin, IsListWithin}
 use Rattle.pl_top.specs.Writing.{Writes}
 use Rattle.pl_make.specs.declared.kind.Kind.{Kind}
 use Rattle.pl_make.specs.Texts.{domain_text, problem_text}
-use Rattle.pl_top.proofs.PlanLemmas.{only_bfs}
 use Rattle.pl_top.proofs.MadeRunLemmas.{says_nothing}
-use Rattle.pl_top.proofs.SearchLemmas.{breadth_ends}
+use Rattle.pl_top.proofs.SearchLemmas.{breadth_ends, greedy_ends, width_ends}
 
 -- a refusal says nothing of the task
 pub refused_nothing : (why : Refusal) (result : ℕ) → result ≡ status_of why → IsOfTask result → ⊥
@@ -52,6 +56,22 @@ memory_nothing result is says = says_nothing result 8 is (λ e. cc e) (λ e. cc 
 
 pub memory_no_list : (result : ℕ) → result ≡ 8 → result ≡ 0 → ⊥
 memory_no_list result is zero = cc (is, zero)
+
+-- no search ended then
+pub refused_no_search : (why : Refusal) (result : ℕ) → result ≡ status_of why → IsSearchEnded result → ⊥
+refused_no_search why result is (inl says) = refused_nothing why result is says
+refused_no_search why result is (inr seven) = by_reason why is
+  where
+    by_reason : (w : Refusal) → result ≡ status_of w → ⊥
+    by_reason (CannotRead role) e = cc (e, seven)
+    by_reason (TooLong role) e = cc (e, seven)
+    by_reason (Input file line column kind) e = cc (e, seven)
+    by_reason NotAStep e = cc (e, seven)
+    by_reason (Memory error) e = cc (e, seven)
+
+pub memory_no_search : (result : ℕ) → result ≡ 8 → IsSearchEnded result → ⊥
+memory_no_search result is (inl says) = memory_nothing result is says
+memory_no_search result is (inr seven) = cc (is, seven)
 
 -- and it isn't a list
 pub refused_no_list : (why : Refusal) (result : ℕ) → result ≡ status_of why → result ≡ 0 → ⊥
@@ -72,29 +92,63 @@ task_read domain problem shelf shelf' d p task first second stated = record {
   stated = stated;
 }
 
--- a breadth-first search whose closure never says yes is the search that cuts no state
-pub search_within : {F E : Type 0} (calls : Shared F (Bor (List ℕ) × Unit {0}) Bool) (task over : Task) (cut : F) (limit : ℕ)
+-- a breadth-first search whose closure says which states are hopeless is the search that cuts these
+pub breadth_within : {F E : Type 0} (calls : Shared F (Bor (List ℕ) × Unit {0}) Bool) (task over : Task) (given cut : F) (limit : ℕ)
     (old new : Register) (before after : ℕ) → over ≡ task → old.limit ≡ limit
-    → ((words : List ℕ) → FnReturnsAt calls cut words true → ⊥)
-    → (result : Result Ended E) → IfOk result (IsBreadth calls over cut old new)
-    → IfOk result (λ ended. AreAcyclic over → (h : IsBreadth calls over cut old new ended) → after ≤ before + search_bound over h.of)
+    → (result : Result Ended E) → IfOk result (IsBreadth calls over given old new)
+    → IfOk result (λ ended. AreAcyclic over → (h : IsBreadth calls over given old new ended) → after ≤ before + search_bound over h.of)
+    → given ≡ cut → IsHopelessCut calls task cut
     → IfOk result (λ ended. IsSearchWithin task search.Bfs limit before after)
-search_within calls task over cut limit old new before after same fits never (Ok ended) h cost = record {
+breadth_within calls task over given cut limit old new before after same fits (Ok ended) h cost is says = record {
   ending = ending_of ended.outcome;
   stats = ended.stats;
   of = h.of;
-  ends = breadth_ends calls task over cut limit old new ended same fits never h;
+  ends = breadth_ends calls task over given limit old new ended same fits
+      (subst (IsHopelessCut calls task) (sym is) says) h;
   cost = subst (λ (t : Task). AreAcyclic t → after ≤ before + search_bound t h.of) same (λ acyclic. cost acyclic h);
 }
-search_within calls task over cut limit old new before after same fits never (Err e) h cost = tt
+breadth_within calls task over given cut limit old new before after same fits (Err e) h cost is says = tt
 
--- it is the search that the options name
-pub search_named : (task : Task) (options : AskedOptions) (limit before after : ℕ) → limit ≡ limit_or_default options.limit →
-    IsSearchWithin task search.Bfs limit before after →
+-- and so is a greedy search
+pub greedy_within : {F E : Type 0} (calls : Shared F (Bor (List ℕ) × Unit {0}) Bool) (task over : Task) (given cut : F) (limit : ℕ)
+    (old new : Register) (before after : ℕ) → over ≡ task → old.limit ≡ limit
+    → (result : Result Ended E) → IfOk result (IsGreedy calls over given old new)
+    → IfOk result (λ ended. AreAcyclic over → (h : IsGreedy calls over given old new ended) → after ≤ before + search_bound over h.of)
+    → given ≡ cut → IsHopelessCut calls task cut
+    → IfOk result (λ ended. IsSearchWithin task search.Gbfs limit before after)
+greedy_within calls task over given cut limit old new before after same fits (Ok ended) h cost is says = record {
+  ending = ending_of ended.outcome;
+  stats = ended.stats;
+  of = h.of;
+  ends = greedy_ends calls task over given limit old new ended same fits
+      (subst (IsHopelessCut calls task) (sym is) says) h;
+  cost = subst (λ (t : Task). AreAcyclic t → after ≤ before + search_bound t h.of) same (λ acyclic. cost acyclic h);
+}
+greedy_within calls task over given cut limit old new before after same fits (Err e) h cost is says = tt
+
+-- what a width search took
+pub width_within : {E : Type 0} (task over : Task) (by : Search) (k limit : ℕ) (old new : Register) (before after : ℕ)
+    → over ≡ task → old.limit ≡ limit → IsOfWidth by k
+    → (result : Result WidthEnded E) → IfOk result (IsWidth over k old new)
+    → IfOk result (λ ended. AreAcyclic over → (h : IsWidth over k old new ended) → after ≤ before + search_bound over h.of)
+    → IfOk result (λ ended. IsSearchWithin task by limit before after)
+width_within task over by k limit old new before after same fits of (Ok ended) h cost = record {
+  ending = ending_of_width ended.outcome;
+  stats = ended.stats;
+  of = h.of;
+  ends = width_ends task over by k limit old new ended same fits of h;
+  cost = subst (λ (t : Task). AreAcyclic t → after ≤ before + search_bound t h.of) same (λ acyclic. cost acyclic h);
+}
+width_within task over by k limit old new before after same fits of (Err e) h cost = tt
+
+-- the search that the options name, with its limit
+pub search_asked : (task : Task) (options : AskedOptions) (by : Search) (limit before after : ℕ) →
+    by ≡ search_or_bfs (option_map kind_named options.search) → limit ≡ limit_or_default options.limit →
+    IsSearchWithin task by limit before after →
     IsSearchWithin task (search_of (plan_options_named options)) (limit_of (plan_options_named options)) before after
-search_named task options limit before after is h =
-    subst (λ (by : Search). IsSearchWithin task by (limit_or_default options.limit) before after) (sym (only_bfs options.search))
-    (subst (λ l. IsSearchWithin task search.Bfs l before after) is h)
+search_asked task options by limit before after named is h =
+    subst (λ (s : Search). IsSearchWithin task s (limit_or_default options.limit) before after) named
+    (subst (λ l. IsSearchWithin task by l before after) is h)
 
 pub plan_within : (domain problem : List ℕ) (options : PlanOptions) (shelf shelf' : ShelfSeen) (before after : ℕ) (task : Task) →
     IsTaskRead domain problem shelf shelf' task → IsSearchWithin task (search_of options) (limit_of options) before after →

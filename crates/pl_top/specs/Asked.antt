@@ -30,6 +30,9 @@ options_named options = record {
 
 abbrev pub kind_named : Kind → Search
 kind_named kind.Bfs = search.Bfs
+kind_named kind.Gbfs = search.Gbfs
+kind_named kind.Iw1 = search.Iw1
+kind_named kind.Iw2 = search.Iw2
 
 abbrev pub plan_options_named : PlanOptions → words.PlanOptions
 plan_options_named options = record {

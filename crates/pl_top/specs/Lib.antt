@@ -13,6 +13,7 @@ pub mod Work
 pub mod Laws
 -- what the functions inside the crate promise each other
 pub mod Asked
+pub mod Ended
 pub mod Refusal
 pub mod Writing
 pub mod Starting

@@ -9,6 +9,7 @@ use Rattle.pl_task.specs.Plans.{IsPlan, IsReachable}
 use Rattle.pl_task.specs.States.{State}
 use Rattle.pl_registry.specs.declared.ended.Stats.{Stats}
 use Rattle.pl_registry.specs.declared.search.Search.TheVariants as search
+use Rattle.pl_registry.specs.LeastPlan.{IsLeastPlan}
 use Rattle.pl_registry.specs.Ending.Ending.{Found, Unsolvable, Limit}
 use Rattle.pl_top.specs.Answer.{Whole, IsReadingOf}
 use Rattle.pl_make.specs.declared.kind.Kind.{Kind}
@@ -19,14 +20,14 @@ use Rattle.pl_top.specs.Run.{ArePlannable, AreSound, IsWidthSearch}
 use Rattle.pl_top.specs.Searching.{limit_of, search_of, search_text}
 use Rattle.pl_top.specs.Summary.{summary_text}
 
--- A plan of the task was printed. By breadth-first search none is shorter.
+-- A plan of the task was printed. By breadth-first search it is the least of all plans: none is shorter, and each other plan
+-- of as many steps comes after it.
 pub record IsPlanPut (task : Task) (options : PlanOptions) (out out' : SinkSeen) : Type 0 where
   pub plan : List Instance
   pub stats : Stats
   pub put : Appends out.written out'.written (search_text task options (Found plan) stats)
   pub is_plan : IsPlan task plan
-  pub shortest : search_of options ≡ search.Bfs → (steps : List Instance) → IsPlan task steps →
-      length plan ≤ length steps
+  pub least : search_of options ≡ search.Bfs → IsLeastPlan task plan
 
 -- `unsolvable` was printed, and no plan exists
 pub record IsNoPlanPut (task : Task) (options : PlanOptions) (out out' : SinkSeen) : Type 0 where
@@ -64,13 +65,13 @@ pub record SaysOfTask (domain problem : List ℕ) (options : PlanOptions) (shelf
 abbrev pub IsOfTask : ℕ → Type 0
 IsOfTask result = (result ≡ 0) ⊎ (result ≡ 1) ⊎ (result ≡ 6)
 
--- The summary of a plan of the task was printed, with the verdict that it is valid. No plan is shorter.
+-- The summary of the least plan of the task was printed, with the verdict that it is valid.
 pub record IsSummaryPut (task : Task) (out out' : SinkSeen) : Type 0 where
   pub plan : List Instance
   pub stats : Stats
   pub put : Appends out.written out'.written (summary_text task plan stats (Valid (length plan)))
   pub is_plan : IsPlan task plan
-  pub shortest : (steps : List Instance) → IsPlan task steps → length plan ≤ length steps
+  pub least : IsLeastPlan task plan
 
 -- what the statuses say of a made task
 pub record IsMadeTruthful (task : Task) (out out' : SinkSeen) (result : ℕ) : Type 0 where
@@ -98,10 +99,11 @@ AreReachableWithin task limit =
     (states : List State) → AllPairs (λ (s t : State). s ≢ t) states → All (IsReachable task) states →
     length states ≤ limit
 
--- a plan is printed where one exists, and `unsolvable` otherwise
+-- a plan is printed where one exists, and `unsolvable` otherwise; a width search, and no other, may be exhausted too
 abbrev pub IsSettled : Task → PlanOptions → SinkSeen → SinkSeen → ℕ → Type 0
 IsSettled task options out out' result =
     ((result ≡ 0) × IsPlanPut task options out out') ⊎ ((result ≡ 1) × IsNoPlanPut task options out out')
+    ⊎ (IsWidthSearch (search_of options) × (result ≡ 7))
 
 -- a plan of a made task is found where one exists, and `unsolvable` is printed otherwise
 abbrev pub IsMadeSettled : Task → SinkSeen → SinkSeen → ℕ → Type 0
@@ -109,8 +111,8 @@ IsMadeSettled task out out' result =
     ((result ≡ 0) × IsSummaryPut task out out') ⊎ ((result ≡ 1) × IsNoPlanPut task no_plan_options out out')
 
 -- Where the files are told and without a fault, neither the shelf nor `out` failed, and the task that they state has
--- at most as many reachable states as the limit, a run of `plan` settles whether a plan exists, or runs out of memory.
--- A width search may be exhausted too. A run of `make` does so over any shelf.
+-- at most as many reachable states as the limit, a run of `plan` settles whether a plan exists, or runs out of memory;
+-- a run by width may be exhausted too. A run of `make` settles it over any shelf.
 abbrev pub IsDecisive : Request → ShelfSeen → ShelfSeen → SinkSeen → SinkSeen → ℕ → Type 0
 IsDecisive (Validate domain problem plan) shelf shelf' out out' result = ⊤
 IsDecisive (Successors domain problem options) shelf shelf' out out' result = ⊤
@@ -118,7 +120,7 @@ IsDecisive (FindPlan domain problem options) shelf shelf' out out' result =
     (files : List NamedBytes) → shelf.files ≡ Some files → (told : ArePlannable files domain problem) →
     (Rose shelf.faults shelf'.faults → ⊥) → (Rose out.faults out'.faults → ⊥) →
     (task : Task) → AreStated told.domain_bytes told.problem_bytes task →
-    AreReachableWithin task (limit_of options) → (IsWidthSearch (search_of options) → ⊥) →
+    AreReachableWithin task (limit_of options) →
     IsSettled task options out out' result ⊎ (result ≡ 8)
 IsDecisive (Make kind n start) shelf shelf' out out' result =
     AreSound kind n start → (Rose out.faults out'.faults → ⊥) →

@@ -83,7 +83,11 @@ no_plan_options = record { search = None; limit = None; stats = false }
 
 -- the search that a word names
 abbrev pub search_named : List ℕ → Option Search
-search_named word = cond (bytes_eq word (codes "bfs")) (Some search.Bfs) None
+search_named word =
+    cond (bytes_eq word (codes "bfs")) (Some search.Bfs)
+    (cond (bytes_eq word (codes "gbfs")) (Some search.Gbfs)
+    (cond (bytes_eq word (codes "iw1")) (Some search.Iw1)
+    (cond (bytes_eq word (codes "iw2")) (Some search.Iw2) None)))
 
 -- whether a search can have this limit
 abbrev pub is_limit : ℕ → Bool

@@ -2,6 +2,7 @@
 use Rattle.std.specs.Prelude.{◌≡◌, ℕ, ◌-◌, ◌^◌, ◌<◌, ◌≤◌, Bool, true, false, List, [], ◌++◌, All, ⊤, Option, Some, None, codes, decimal}
 use Rattle.pl_task.specs.declared.task.Task.{Task}
 use Rattle.pl_task.specs.States.{State, IsStep}
+use Rattle.pl_hooks.specs.Hopeless.{is_hopeless}
 use Rattle.pl_registry.specs.declared.ended.Stats.{Stats}
 use Rattle.pl_registry.specs.declared.search.Search.{Search}
 use Rattle.pl_registry.specs.declared.search.Search.TheVariants as search
@@ -28,27 +29,28 @@ search_of options = search_or_bfs options.search
 abbrev pub limit_of : PlanOptions → ℕ
 limit_of options = limit_or_default options.limit
 
--- the search that the request asks for is one that is there, and can have its limit; a task is made in this size
+-- the search that the request asks for can have its limit; a task is made in this size
 abbrev pub CanRun : Request → Type 0
 CanRun (Validate domain problem plan) = ⊤
 CanRun (Successors domain problem options) = ⊤
-CanRun (FindPlan domain problem options) =
-    (search_of options ≡ search.Bfs) × (1 ≤ limit_of options) × (limit_of options < 2 ^ 32 - 1)
+CanRun (FindPlan domain problem options) = (1 ≤ limit_of options) × (limit_of options < 2 ^ 32 - 1)
 CanRun (Make kind n start) = IsSize kind n
 
--- no state is cut
-abbrev pub cut_none : State → Bool
-cut_none s = false
-
--- breadth-first search with this limit ends so, with these counts
-pub record IsBreadthFirst (task : Task) (limit : ℕ) (ending : Ending) (stats : Stats) : Type 0 where
+-- the search with this limit ends so, with these counts; hopeless states are cut
+pub record IsSearchedBy (task : Task) (by : Search) (limit : ℕ) (ending : Ending) (stats : Stats) : Type 0 where
   pub of : SearchRecord
-  pub ends : IsEndingOf task cut_none search.Bfs limit of ending stats
+  pub ends : IsEndingOf task (is_hopeless task) by limit of ending stats
+
+-- the search is the one by this width
+abbrev pub IsOfWidth : Search → ℕ → Type 0
+IsOfWidth search.Bfs k = ⊥
+IsOfWidth search.Gbfs k = ⊥
+IsOfWidth search.Iw1 k = k ≡ 1
+IsOfWidth search.Iw2 k = k ≡ 2
 
 -- the search that the options name ends so, with these counts
-pub record IsSearched (task : Task) (options : PlanOptions) (ending : Ending) (stats : Stats) : Type 0 where
-  pub of : SearchRecord
-  pub ends : IsEndingOf task cut_none (search_of options) (limit_of options) of ending stats
+abbrev pub IsSearched : Task → PlanOptions → Ending → Stats → Type 0
+IsSearched task options = IsSearchedBy task (search_of options) (limit_of options)
 
 abbrev pub ending_status : Ending → ℕ
 ending_status (Found plan) = 0

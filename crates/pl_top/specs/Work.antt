@@ -1,5 +1,5 @@
 -- How many probes a run takes where all schemas of its task are acyclic.
-use Rattle.std.specs.Prelude.{◌≡◌, ℕ, ◌≤◌, ◌+◌, List, Option, ⊤}
+use Rattle.std.specs.Prelude.{◌≡◌, ◌⊎◌, ℕ, ◌≤◌, ◌+◌, List, Option, ⊤}
 use Rattle.pl_io.specs.Outside.{ShelfSeen}
 use Rattle.pl_check.specs.Stated.{AreStated}
 use Rattle.pl_task.specs.declared.plan.PlanLine.{PlanLine}
@@ -7,6 +7,7 @@ use Rattle.pl_task.specs.declared.task.Task.{Task}
 use Rattle.pl_task.specs.States.{State}
 use Rattle.pl_normal.specs.Measures.{probe_bound}
 use Rattle.pl_gen.specs.Walks.{AreAcyclic}
+use Rattle.pl_hooks.specs.Hopeless.{is_hopeless}
 use Rattle.pl_registry.specs.declared.ended.Stats.{Stats}
 use Rattle.pl_registry.specs.declared.search.Search.{Search}
 use Rattle.pl_registry.specs.declared.search.Search.TheVariants as search
@@ -20,7 +21,7 @@ use Rattle.pl_top.specs.Planning.{IsOfTask}
 use Rattle.pl_top.specs.Reaching.{AreExecuted}
 use Rattle.pl_top.specs.Refusal.{IsPlanWhole}
 use Rattle.pl_top.specs.Request.{Request, Options, PlanOptions, Validate, Successors, FindPlan, Make}
-use Rattle.pl_top.specs.Searching.{cut_none, limit_of, search_of}
+use Rattle.pl_top.specs.Searching.{limit_of, search_of}
 
 -- domain and problem were read whole, and state the task
 pub record IsTaskRead (domain problem : List ℕ) (shelf shelf' : ShelfSeen) (task : Task) : Type 0 where
@@ -35,7 +36,7 @@ pub record IsSearchWithin (task : Task) (by : Search) (limit before after : ℕ)
   pub ending : Ending
   pub stats : Stats
   pub of : SearchRecord
-  pub ends : IsEndingOf task cut_none by limit of ending stats
+  pub ends : IsEndingOf task (is_hopeless task) by limit of ending stats
   pub cost : AreAcyclic task → after ≤ before + search_bound task of
 
 -- the files state a task, whose search took no more than its bound
@@ -70,6 +71,10 @@ pub record IsListWithin (domain problem : List ℕ) (options : Options) (shelf s
   pub are : AreLinesRead options.after shelf task lines
   pub walk : IsWalkWithin task lines before after
 
+-- the statuses of a run of `plan` whose search ended
+abbrev pub IsSearchEnded : ℕ → Type 0
+IsSearchEnded result = IsOfTask result ⊎ (result ≡ 7)
+
 -- what a run that says something of its task takes: of `successors` no more than the bound of the reached state, and of `plan` and
 -- `make` no more than those of the expanded states
 abbrev pub IsWithin : Request → ShelfSeen → ShelfSeen → ℕ → ℕ → ℕ → Type 0
@@ -77,5 +82,5 @@ IsWithin (Validate domain problem plan) shelf shelf' before after result = ⊤
 IsWithin (Successors domain problem options) shelf shelf' before after result =
     result ≡ 0 → IsListWithin domain problem options shelf shelf' before after
 IsWithin (FindPlan domain problem options) shelf shelf' before after result =
-    IsOfTask result → IsPlanWithin domain problem options shelf shelf' before after
+    IsSearchEnded result → IsPlanWithin domain problem options shelf shelf' before after
 IsWithin (Make kind n start) shelf shelf' before after result = IsOfTask result → IsMadeWithin kind n start before after

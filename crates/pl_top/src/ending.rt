@@ -3,46 +3,48 @@
 ghost use Rattle.std.specs.Prelude.{◌≡◌, OnOk, OnErr};
 ghost use Rattle.std.specs.Io.KnownBytes.{Appends};
 ghost use Rattle.pl_io.specs.Outside.{AppendsFront, HasCause};
-ghost use Rattle.pl_registry.specs.Ending.{ending_of};
+ghost use Rattle.pl_top.specs.Ended.{ending_in};
 ghost use Rattle.pl_top.specs.Searching as spec;
 ghost use Rattle.pl_top.specs.Searching.{AreStepsOf, ended_text, ending_status, ending_text};
 ghost use Rattle.pl_top.specs.Writing.{Writes};
 
 use crate::refusal::cannot_write;
+use crate::search_end::{SearchEnd, SearchOutcome};
 use itoa::Buffer;
 use pl_io::{Failed, Sink, put_all, put_pieces};
 use pl_print::{put_plan, put_stats};
-use pl_registry::{Ended, Outcome, Stats};
+use pl_registry::Stats;
 use pl_task::Task;
 
 /// Prints how the search ended under its limit, and what it counted where that is asked for. Answers the status.
 pub fn print_ended<O: Sink, E: Sink>(
     task: &Task,
-    ended: &Ended,
+    end: &SearchEnd,
     limit: u32,
     stats: bool,
     out: &mut O,
     err: &mut E,
 ) -> u8
-    requires { AreStepsOf task.now (ending_of ended.now.outcome) }
-    ensures { Writes (ended_text task.now limit stats (ending_of ended.now.outcome) ended.now.stats)
-        (ending_status (ending_of ended.now.outcome))
+    requires { AreStepsOf task.now (ending_in end.now.outcome) }
+    ensures { Writes (ended_text task.now limit stats (ending_in end.now.outcome) end.now.stats)
+        (ending_status (ending_in end.now.outcome))
         (O.seen out.old) (O.seen out.new) (E.seen err.old) (E.seen err.new) result }
 {
-    match put_ended(out, task, ended, limit, stats) {
-        Ok(()) => status(&ended.outcome),
+    match put_ended(out, task, end, limit, stats) {
+        Ok(()) => status(&end.outcome),
         Err(_) => cannot_write(err),
     }
 }
 
 /// The status of a run that prints the outcome.
-fn status(outcome: &Outcome) -> u8
-    ensures { result ≡ ending_status (ending_of outcome.now) }
+fn status(outcome: &SearchOutcome) -> u8
+    ensures { result ≡ ending_status (ending_in outcome.now) }
 {
     match outcome {
-        Outcome::Found(_) => 0,
-        Outcome::Unsolvable => 1,
-        Outcome::Limit => 6,
+        SearchOutcome::Found(_) => 0,
+        SearchOutcome::Unsolvable => 1,
+        SearchOutcome::Exhausted => 7,
+        SearchOutcome::Limit => 6,
     }
 }
 
@@ -50,39 +52,40 @@ fn status(outcome: &Outcome) -> u8
 fn put_ended<O: Sink>(
     out: &mut O,
     task: &Task,
-    ended: &Ended,
+    end: &SearchEnd,
     limit: u32,
     stats: bool,
 ) -> Result<(), Failed>
-    requires { AreStepsOf task.now (ending_of ended.now.outcome) }
+    requires { AreStepsOf task.now (ending_in end.now.outcome) }
     ensures all { OnOk result (Appends (O.seen out.old).written (O.seen out.new).written
-        (ended_text task.now limit stats (ending_of ended.now.outcome) ended.now.stats)) }
+        (ended_text task.now limit stats (ending_in end.now.outcome) end.now.stats)) }
     ensures front { OnErr result (AppendsFront (O.seen out.old).written (O.seen out.new).written
-        (ended_text task.now limit stats (ending_of ended.now.outcome) ended.now.stats)) }
+        (ended_text task.now limit stats (ending_in end.now.outcome) end.now.stats)) }
     ensures cause { HasCause (O.seen out.old).faults (O.seen out.new).faults result }
 {
-    put_outcome(out, task, &ended.outcome, limit)?;
-    put_counts(out, &ended.stats, stats)
+    put_outcome(out, task, &end.outcome, limit)?;
+    put_counts(out, &end.stats, stats)
 }
 
-/// Writes a plan, `unsolvable`, or `limit N`.
+/// Writes a plan, `unsolvable`, `exhausted`, or `limit N`.
 fn put_outcome<O: Sink>(
     out: &mut O,
     task: &Task,
-    outcome: &Outcome,
+    outcome: &SearchOutcome,
     limit: u32,
 ) -> Result<(), Failed>
-    requires { AreStepsOf task.now (ending_of outcome.now) }
+    requires { AreStepsOf task.now (ending_in outcome.now) }
     ensures all { OnOk result (Appends (O.seen out.old).written (O.seen out.new).written
-        (ending_text task.now limit (ending_of outcome.now))) }
+        (ending_text task.now limit (ending_in outcome.now))) }
     ensures front { OnErr result (AppendsFront (O.seen out.old).written (O.seen out.new).written
-        (ending_text task.now limit (ending_of outcome.now))) }
+        (ending_text task.now limit (ending_in outcome.now))) }
     ensures cause { HasCause (O.seen out.old).faults (O.seen out.new).faults result }
 {
     match outcome {
-        Outcome::Found(plan) => put_plan(out, task, plan),
-        Outcome::Unsolvable => put_all(out, b"unsolvable\n"),
-        Outcome::Limit => put_limit(out, limit),
+        SearchOutcome::Found(plan) => put_plan(out, task, plan),
+        SearchOutcome::Unsolvable => put_all(out, b"unsolvable\n"),
+        SearchOutcome::Exhausted => put_all(out, b"exhausted\n"),
+        SearchOutcome::Limit => put_limit(out, limit),
     }
 }
 

@@ -18,6 +18,7 @@ mod reading;
 mod refusal;
 mod request;
 mod running;
+mod search_end;
 mod searching;
 mod starting;
 mod successors;
@@ -28,5 +29,7 @@ mod words;
 pub use running::run;
 pub use words::Words;
 
+#[cfg(test)]
+mod failing_tests;
 #[cfg(test)]
 mod tests;

@@ -14,7 +14,7 @@ ghost use Rattle.pl_top.specs.Planning.{IsOfTask};
 ghost use Rattle.pl_top.specs.Refusal.{IsUnanswered};
 ghost use Rattle.pl_top.specs.Request as spec;
 ghost use Rattle.pl_top.specs.Run.{RunEnds};
-ghost use Rattle.pl_top.specs.Searching.{IsBreadthFirst};
+ghost use Rattle.pl_top.specs.Searching.{IsSearchedBy};
 ghost use Rattle.pl_top.specs.Work.{IsMadeWithin, IsSearchWithin};
 ghost use Rattle.pl_top.specs.Writing.{Finishes};
 ghost use Rattle.pl_valid.specs.Verdict.{IsVerdict};
@@ -22,7 +22,8 @@ ghost use Rattle.pl_valid.specs.Verdict.{IsVerdict};
 use crate::ending::print_ended;
 use crate::planning::stated;
 use crate::refusal::{Refusal, refuse};
-use crate::searching::searched;
+use crate::search_end::{SearchEnd, SearchOutcome};
+use crate::searching::breadth_first;
 use crate::summary::print_summary;
 use pl_io::Sink;
 use pl_make::Kind;
@@ -79,7 +80,7 @@ fn solve<O: Sink, E: Sink, L: Ledger>(
         (O.seen out.old) (O.seen out.new) (E.seen err.old) (E.seen err.new) result }
     ensures work { IsOfTask result → IsSearchWithin task.now search.Bfs 1000000 steps.old steps.new }
 {
-    match searched(alloc, task, 1000000, steps) {
+    match breadth_first(alloc, task, 1000000, steps) {
         Ok(ended) => conclude(alloc, task, &ended, out, err),
         Err(error) => refuse(&Refusal::Memory(error), err),
     }
@@ -93,14 +94,34 @@ fn conclude<O: Sink, E: Sink>(
     out: &mut O,
     err: &mut E,
 ) -> u8
-    requires { IsBreadthFirst task.now 1000000 (ending_of ended.now.outcome) ended.now.stats }
+    requires { IsSearchedBy task.now search.Bfs 1000000 (ending_of ended.now.outcome) ended.now.stats }
     ensures { Finishes (IsMadeOutcome task.now)
         (O.seen out.old) (O.seen out.new) (E.seen err.old) (E.seen err.new) result }
 {
     match &ended.outcome {
         Outcome::Found(plan) => sum_up(alloc, task, plan, &ended.stats, out, err),
-        Outcome::Unsolvable => print_ended(task, ended, 1000000, false, out, err),
-        Outcome::Limit => print_ended(task, ended, 1000000, false, out, err),
+        Outcome::Unsolvable => print_ended(
+            task,
+            &SearchEnd {
+                outcome: SearchOutcome::Unsolvable,
+                stats: ended.stats,
+            },
+            1000000,
+            false,
+            out,
+            err,
+        ),
+        Outcome::Limit => print_ended(
+            task,
+            &SearchEnd {
+                outcome: SearchOutcome::Limit,
+                stats: ended.stats,
+            },
+            1000000,
+            false,
+            out,
+            err,
+        ),
     }
 }
 

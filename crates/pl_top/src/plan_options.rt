@@ -13,6 +13,12 @@ use crate::words::Words;
 pub enum Kind {
     /// Breadth-first.
     Bfs,
+    /// Greedy best-first, by the number of unmet goal literals.
+    Gbfs,
+    /// Breadth-first over the states that have a new atom.
+    Iw1,
+    /// The same with a new atom or a new pair of atoms.
+    Iw2,
 }
 
 /// The options of `plan`.
@@ -118,6 +124,15 @@ fn search_named(word: &str) -> Option<Kind>
 {
     if word == "bfs" {
         return Some(Kind::Bfs);
+    }
+    if word == "gbfs" {
+        return Some(Kind::Gbfs);
+    }
+    if word == "iw1" {
+        return Some(Kind::Iw1);
+    }
+    if word == "iw2" {
+        return Some(Kind::Iw2);
     }
     None
 }

@@ -1,20 +1,20 @@
 //! The command `plan`: looks for a plan.
 
 ghost use Rattle.std.specs.Prelude.{◌≡◌, ◌<◌, ◌-◌, ◌≤◌, ◌^◌, IfErr, IfOk, length};
+ghost use Rattle.std.specs.Option.{option_map};
 ghost use Rattle.pl_check.specs.Stated.{AreStated};
 ghost use Rattle.pl_io.specs.Outside.{most_file_bytes};
 ghost use Rattle.pl_top.specs.Answer.{Outcome, IsAnswer, IsInputFault, IsSearchOutcome};
-ghost use Rattle.pl_top.specs.Asked.{plan_options_named};
+ghost use Rattle.pl_top.specs.Asked.{kind_named, plan_options_named};
 ghost use Rattle.pl_top.specs.Refusal.{HasBegun, IsRefused, IsUnanswered};
 ghost use Rattle.pl_top.specs.Request as spec;
 ghost use Rattle.pl_top.specs.Run.{RunEnds};
-ghost use Rattle.pl_top.specs.Searching.{limit_of, limit_or_default, search_of};
-ghost use Rattle.pl_top.specs.Planning.{IsOfTask};
-ghost use Rattle.pl_top.specs.Work.{IsPlanWithin, IsSearchWithin, IsTaskRead};
+ghost use Rattle.pl_top.specs.Searching.{limit_of, limit_or_default, search_of, search_or_bfs};
+ghost use Rattle.pl_top.specs.Work.{IsPlanWithin, IsSearchEnded, IsSearchWithin, IsTaskRead};
 ghost use Rattle.pl_top.specs.Writing.{Finishes};
 
 use crate::ending::print_ended;
-use crate::plan_options::PlanOptions;
+use crate::plan_options::{Kind, PlanOptions};
 use crate::reading::read_file;
 use crate::refusal::{Refusal, refuse};
 use crate::searching::searched;
@@ -42,7 +42,7 @@ pub fn plan<S: Shelf, O: Sink, E: Sink, L: Ledger>(
     ensures ends { RunEnds (spec.FindPlan domain.now problem.now (plan_options_named options))
         (S.seen shelf.old) (S.seen shelf.new) (O.seen out.old) (O.seen out.new)
         (E.seen err.old) (E.seen err.new) result }
-    ensures work { IsOfTask result → IsPlanWithin domain.now problem.now (plan_options_named options)
+    ensures work { IsSearchEnded result → IsPlanWithin domain.now problem.now (plan_options_named options)
         (S.seen shelf.old) (S.seen shelf.new) steps.old steps.new }
 {
     match read_task(alloc, domain, problem, options, shelf) {
@@ -102,13 +102,21 @@ fn solve<O: Sink, E: Sink, L: Ledger>(
     ensures ends { Finishes (IsSearchOutcome task.now (plan_options_named options))
         (O.seen out.old) (O.seen out.new) (E.seen err.old) (E.seen err.new) result }
     ensures work { let asked = plan_options_named options in
-        IsOfTask result → IsSearchWithin task.now (search_of asked) (limit_of asked) steps.old steps.new }
+        IsSearchEnded result → IsSearchWithin task.now (search_of asked) (limit_of asked) steps.old steps.new }
 {
+    let kind = kind_of(options.search);
     let limit = limit_of(options.limit);
-    match searched(alloc, task, limit, steps) {
-        Ok(ended) => print_ended(task, &ended, limit, options.stats, out, err),
+    match searched(alloc, task, kind, limit, steps) {
+        Ok(end) => print_ended(task, &end, limit, options.stats, out, err),
         Err(error) => refuse(&Refusal::Memory(error), err),
     }
+}
+
+/// By which search: breadth-first where none is named.
+fn kind_of(search: Option<Kind>) -> Kind
+    ensures { kind_named result ≡ search_or_bfs (option_map kind_named search) }
+{
+    search.unwrap_or(Kind::Bfs)
 }
 
 /// How many states are registered at most: a million where no limit is given.

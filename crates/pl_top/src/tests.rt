@@ -15,7 +15,7 @@ use std::test::Fail;
 const VALIDATE: &[&str] = &["validate", "d", "p", "l"];
 
 /// A domain with one action, from a place to a linked one.
-const HOP: &str = "(define (domain hop)
+pub(crate) const HOP: &str = "(define (domain hop)
  (:predicates (at ?x) (link ?x ?y))
  (:action hop :parameters (?x ?y)
   :precondition (and (at ?x) (link ?x ?y))
@@ -31,7 +31,7 @@ const ONCE: &str = "(define (domain hop)
 ";
 
 /// Three places in a row, with the goal at the end.
-const ROW: &str = "(define (problem h) (:domain hop) (:objects a b c)
+pub(crate) const ROW: &str = "(define (problem h) (:domain hop) (:objects a b c)
  (:init (at a) (link a b) (link b c)) (:goal (at c)))
 ";
 
@@ -73,7 +73,7 @@ fn bytes_of(alloc: Global, text: &str) -> Result<Vec<u8>, AllocError> {
 }
 
 /// The words, each stored.
-fn words_of(alloc: Global, texts: &[&str]) -> Result<Words, AllocError> {
+pub(crate) fn words_of(alloc: Global, texts: &[&str]) -> Result<Words, AllocError> {
     let mut words = Words::new(alloc);
     for text in texts {
         words.push(text)?;
@@ -82,7 +82,7 @@ fn words_of(alloc: Global, texts: &[&str]) -> Result<Words, AllocError> {
 }
 
 /// The files of a table, with their bytes.
-fn files_of(alloc: Global, texts: &[(&str, &str)]) -> Result<Vec<NamedFile>, AllocError> {
+pub(crate) fn files_of(alloc: Global, texts: &[(&str, &str)]) -> Result<Vec<NamedFile>, AllocError> {
     let mut files = Vec::new(alloc);
     for (name, text) in texts {
         files.push(NamedFile {
@@ -303,7 +303,9 @@ const BAD_WORDS: &[&[&str]] = &[
     &["plan", "d", "p", "--limit", "5", "--limit", "5"],
     &["plan", "d", "p", "--search"],
     &["plan", "d", "p", "--search", "BFS"],
-    &["plan", "d", "p", "--search", "gbfs"],
+    &["plan", "d", "p", "--search", "gbfs1"],
+    &["plan", "d", "p", "--search", "iw3"],
+    &["plan", "d", "p", "--search", "iw"],
     &["plan", "d", "p", "--search", "bfs", "--search", "bfs"],
     &["plan", "d", "p", "--stats", "--stats"],
     &["plan", "d", "p", "--stats", "1"],
@@ -349,7 +351,7 @@ fn other_words_are_no_request(rt: HostRuntime) -> Result<(), Fail> {
 }
 
 /// The plan that leads along the row.
-const ALONG: &str = "(hop a b) (hop b c)";
+pub(crate) const ALONG: &str = "(hop a b) (hop b c)";
 
 /// The shelf of most cases.
 const SHELF: &[(&str, &str)] = &[("d", HOP), ("p", ROW), ("l", ALONG)];
@@ -1470,14 +1472,28 @@ const PLANNED: &[Planned] = &[
         6,
         "limit 1\n",
     ),
+    // Breadth-first and greedy search see that no effect gives a link; a search by width looks for one.
     (
         HOP,
         UNLINKED,
         &["plan", "d", "p", "--limit", "1"],
+        1,
+        "unsolvable\n",
+    ),
+    (
+        HOP,
+        UNLINKED,
+        &["plan", "d", "p", "--stats", "--search", "gbfs"],
+        1,
+        "unsolvable\n; states 1\n; expanded 0\n; generated 0\n",
+    ),
+    (
+        HOP,
+        UNLINKED,
+        &["plan", "d", "p", "--limit", "1", "--search", "iw1"],
         6,
         "limit 1\n",
     ),
-    (HOP, UNLINKED, &["plan", "d", "p"], 1, "unsolvable\n"),
     (ONE_WAY, ROW, &["plan", "d", "p"], 0, ALONG_PRINTED),
     (
         MAKERS,
@@ -1492,6 +1508,71 @@ const PLANNED: &[Planned] = &[
         &["plan", "d", "p"],
         0,
         "(push)\n; length 1\n",
+    ),
+    (
+        HOP,
+        ROW,
+        &["plan", "d", "p", "--search", "gbfs", "--stats"],
+        0,
+        "(hop a b)\n(hop b c)\n; length 2\n; states 2\n; expanded 2\n; generated 2\n",
+    ),
+    (
+        MAKERS,
+        MADE,
+        &["plan", "d", "p", "--search", "gbfs", "--stats"],
+        0,
+        "(mk-p)\n(mk-q)\n(mk-r)\n; length 3\n; states 6\n; expanded 3\n; generated 9\n",
+    ),
+    (
+        MAKERS,
+        MADE,
+        &[
+            "plan", "d", "p", "--stats", "--search", "gbfs", "--limit", "5",
+        ],
+        6,
+        "limit 5\n; states 5\n; expanded 2\n; generated 6\n",
+    ),
+    (
+        HOP,
+        APART,
+        &["plan", "d", "p", "--search", "gbfs"],
+        1,
+        "unsolvable\n",
+    ),
+    (
+        HOP,
+        ROW,
+        &["plan", "d", "p", "--search", "iw1"],
+        0,
+        ALONG_PRINTED,
+    ),
+    (
+        HOP,
+        APART,
+        &["plan", "d", "p", "--search", "iw1"],
+        1,
+        "unsolvable\n",
+    ),
+    (
+        MAKERS,
+        MADE,
+        &["plan", "d", "p", "--search", "iw1", "--stats"],
+        7,
+        "exhausted\n; states 4\n; expanded 4\n; generated 12\n",
+    ),
+    (
+        MAKERS,
+        MADE,
+        &["plan", "d", "p", "--search", "iw1", "--limit", "2"],
+        6,
+        "limit 2\n",
+    ),
+    (
+        MAKERS,
+        MADE,
+        &["plan", "d", "p", "--search", "iw2", "--stats"],
+        0,
+        "(mk-p)\n(mk-q)\n(mk-r)\n; length 3\n; states 7\n; expanded 5\n; generated 15\n",
     ),
 ];
 

@@ -3,7 +3,7 @@ use Rattle.pl_top.specs.Answer.{IsSearchOutcome}
 use Rattle.pl_top.specs.Asked.{plan_options_named}
 use Rattle.pl_top.proofs.FinishLemmas.{finished_run}
 use Rattle.pl_top.proofs.RunLemmas.{refused_run}
-use Rattle.pl_top.proofs.WorkLemmas.{plan_within, refused_nothing}
+use Rattle.pl_top.proofs.WorkLemmas.{plan_within, refused_no_search}
 use Rattle.pl_top.proofs.planning.plan.Goals as goal
 
 pub returns-in-Ok-clause-ends : goal.returns-in-Ok-clause-ends
@@ -21,4 +21,4 @@ returns-in-Ok-clause-work g c = λ says.
     (c.solve.ensures.work says)
 
 pub returns-in-Err-clause-work : goal.returns-in-Err-clause-work
-returns-in-Err-clause-work g c = λ says. absurd (refused_nothing c.in-Err.refusal _ c.refuse.ensures.status says)
+returns-in-Err-clause-work g c = λ says. absurd (refused_no_search c.in-Err.refusal _ c.refuse.ensures.status says)
