@@ -9,7 +9,7 @@ _powerlift() {
     fi
     case $before in
         --search)
-            mapfile -t COMPREPLY < <(compgen -W "bfs" -- "$word")
+            mapfile -t COMPREPLY < <(compgen -W "bfs gbfs iw1 iw2" -- "$word")
             return
             ;;
         --limit | --count | --past) return ;;

@@ -1,10 +1,10 @@
 # Completion of powerlift for fish.
-complete -c powerlift -n __fish_use_subcommand -f -a plan -d 'find a shortest plan'
+complete -c powerlift -n __fish_use_subcommand -f -a plan -d 'find a plan'
 complete -c powerlift -n __fish_use_subcommand -f -a successors -d 'list applicable steps'
 complete -c powerlift -n __fish_use_subcommand -f -a validate -d 'judge a plan'
 complete -c powerlift -n __fish_use_subcommand -f -a make -d 'make a task and solve it'
 complete -c powerlift -n '__fish_seen_subcommand_from make' -f -a 'hop wide' -d 'what is made'
-complete -c powerlift -n '__fish_seen_subcommand_from plan' -x -l search -a bfs -d 'which search'
+complete -c powerlift -n '__fish_seen_subcommand_from plan' -x -l search -a 'bfs gbfs iw1 iw2' -d 'which search'
 complete -c powerlift -n '__fish_seen_subcommand_from plan' -x -l limit -d 'most states'
 complete -c powerlift -n '__fish_seen_subcommand_from plan' -l stats -d 'print what was counted'
 complete -c powerlift -n '__fish_seen_subcommand_from successors' -r -F -l after -d 'the steps after a plan'
