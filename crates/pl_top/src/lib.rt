@@ -30,6 +30,4 @@ pub use running::run;
 pub use words::Words;
 
 #[cfg(test)]
-mod failing_tests;
-#[cfg(test)]
 mod tests;

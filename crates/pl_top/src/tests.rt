@@ -15,7 +15,7 @@ use std::test::Fail;
 const VALIDATE: &[&str] = &["validate", "d", "p", "l"];
 
 /// A domain with one action, from a place to a linked one.
-pub(crate) const HOP: &str = "(define (domain hop)
+const HOP: &str = "(define (domain hop)
  (:predicates (at ?x) (link ?x ?y))
  (:action hop :parameters (?x ?y)
   :precondition (and (at ?x) (link ?x ?y))
@@ -31,7 +31,7 @@ const ONCE: &str = "(define (domain hop)
 ";
 
 /// Three places in a row, with the goal at the end.
-pub(crate) const ROW: &str = "(define (problem h) (:domain hop) (:objects a b c)
+const ROW: &str = "(define (problem h) (:domain hop) (:objects a b c)
  (:init (at a) (link a b) (link b c)) (:goal (at c)))
 ";
 
@@ -73,7 +73,7 @@ fn bytes_of(alloc: Global, text: &str) -> Result<Vec<u8>, AllocError> {
 }
 
 /// The words, each stored.
-pub(crate) fn words_of(alloc: Global, texts: &[&str]) -> Result<Words, AllocError> {
+fn words_of(alloc: Global, texts: &[&str]) -> Result<Words, AllocError> {
     let mut words = Words::new(alloc);
     for text in texts {
         words.push(text)?;
@@ -82,7 +82,7 @@ pub(crate) fn words_of(alloc: Global, texts: &[&str]) -> Result<Words, AllocErro
 }
 
 /// The files of a table, with their bytes.
-pub(crate) fn files_of(alloc: Global, texts: &[(&str, &str)]) -> Result<Vec<NamedFile>, AllocError> {
+fn files_of(alloc: Global, texts: &[(&str, &str)]) -> Result<Vec<NamedFile>, AllocError> {
     let mut files = Vec::new(alloc);
     for (name, text) in texts {
         files.push(NamedFile {
@@ -351,7 +351,7 @@ fn other_words_are_no_request(rt: HostRuntime) -> Result<(), Fail> {
 }
 
 /// The plan that leads along the row.
-pub(crate) const ALONG: &str = "(hop a b) (hop b c)";
+const ALONG: &str = "(hop a b) (hop b c)";
 
 /// The shelf of most cases.
 const SHELF: &[(&str, &str)] = &[("d", HOP), ("p", ROW), ("l", ALONG)];
