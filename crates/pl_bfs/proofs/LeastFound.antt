@@ -25,10 +25,10 @@ module _ {F : Type 0} (calls : Shared F (Bor (List ℕ) × Unit {0}) Bool) (task
 
   least_so : (limit : ℕ) (r : SearchRecord) (end : Outcome) (stats : Stats) →
       IsEnding (space_of task) (MayDrop calls task cut) (MayKeep calls task cut) by_number limit r
-          (ending_of end) stats → IsLeastIfFound task end
+      (ending_of end) stats → IsLeastIfFound task end
   least_so limit r (outcome.Found plan) stats ending =
       found_is_least task (MayDrop calls task cut)
-          (MayKeep calls task cut) limit r plan stats drops_no_goal ending
+      (MayKeep calls task cut) limit r plan stats drops_no_goal ending
   least_so limit r outcome.Unsolvable stats ending = tt
   least_so limit r outcome.Limit stats ending = tt
 
