@@ -1,9 +1,11 @@
 -- Gathering the classes of slots by rising number.
-use Rattle.std.proofs.Common.{◌≡◌, ◌+◌, ◌<◌, ℕ, List, [], ◌∷◌, ◌++◌, length, map, get_or, slice_get, Some, All, Contains, refl, sym, ap, ◌∙◌, subst, inl, inr, arith}
+use Rattle.std.proofs.Common.{◌≡◌, ◌+◌, ◌<◌, ℕ, List, [], ◌∷◌, ◌++◌, length, map, get_or, slice_get, Some}
+use Rattle.std.proofs.Common.{All, Contains, refl, sym, ap, ◌∙◌, subst, inl, inr, arith}
 use Rattle.std.specs.List.{AllPairs}
 use Rattle.std.proofs.lemmas.Bool.{cases_lt}
 use Rattle.std.proofs.lemmas.List.{get_or-map, get_or_default, length_push, map_push}
-use Rattle.std.proofs.lemmas.List.Elements.{All-nil, All-push, All-weaker, All-contains, Contains-append_left, Contains-push, Contains-push_cases}
+use Rattle.std.proofs.lemmas.List.Elements.{All-nil, All-push, All-weaker, All-contains, Contains-append_left}
+use Rattle.std.proofs.lemmas.List.Elements.{Contains-push, Contains-push_cases}
 use Rattle.std.proofs.lemmas.List.Quantifiers.{all_pairs_push}
 use Rattle.std.proofs.lemmas.Option.{slice_get_within, get_or_from_slice_get}
 use Rattle.pl_rows.proofs.Canonical.{Contains-nil}
@@ -20,10 +22,13 @@ gathered_none slots = record {
   places = record { len = refl; within = All-nil (λ column. column < length slots); values = λ f. refl };
 }
 
-pub gathered_more : (slots : List Slot) (classes columns : List ℕ) (n place : ℕ) → IsGathered slots classes columns n → slice_get slots place ≡ Some (Class n) → IsGathered slots (classes ++ n ∷ []) (columns ++ place ∷ []) (n + 1)
+pub gathered_more : (slots : List Slot) (classes columns : List ℕ) (n place : ℕ)
+    → IsGathered slots classes columns n → slice_get slots place ≡ Some (Class n)
+    → IsGathered slots (classes ++ n ∷ []) (columns ++ place ∷ []) (n + 1)
 gathered_more slots classes columns n place g at = record {
   rising = all_pairs_push (λ a b. a < b) classes n g.rising g.below;
-  below = All-push (λ c. c < n + 1) classes n (All-weaker (λ c. c < n) (λ c. c < n + 1) (λ c h. omega arith) classes g.below) (omega arith);
+  below = All-push (λ c. c < n + 1) classes n
+      (All-weaker (λ c. c < n) (λ c. c < n + 1) (λ c h. omega arith) classes g.below) (omega arith);
   members = λ c. (forth c, back c);
   places = record {
     len = omega (arith, length_push columns place, length_push classes n, g.places.len);
@@ -47,19 +52,24 @@ gathered_more slots classes columns n place g at = record {
     back : (c : ℕ) → Contains slots (Class c) × (c < n + 1) → Contains (classes ++ n ∷ []) c
     back c (h, l) = elim (cases_lt c n) [
       | inl lt ↦ Contains-append_left classes (n ∷ []) c ((g.members c).1 (h, lt))
-      | inr ge ↦ (let e : n ≡ c = omega arith in subst (Contains (classes ++ n ∷ [])) e (Contains-push classes n))
+      | inr ge ↦ (let e : n ≡ c = omega arith in subst (Contains (classes ++ n ∷ [])) e
+          (Contains-push classes n))
     ]
 
-    values : (f : Assignment) → picked (columns ++ place ∷ []) (map (slot_value f) slots) ≡ map f (classes ++ n ∷ [])
+    values : (f : Assignment) → picked (columns ++ place ∷ []) (map (slot_value f) slots) ≡ map f
+        (classes ++ n ∷ [])
     values f =
         let here : get_or (map (slot_value f) slots) place 0 ≡ f n =
-        get_or-map (slot_value f) slots place (Class n) 0 within ∙ ap (slot_value f) (get_or_from_slice_get slots place (Class n) (Class n) at) in
+        get_or-map (slot_value f) slots place (Class n) 0 within
+        ∙ ap (slot_value f) (get_or_from_slice_get slots place (Class n) (Class n) at) in
         map_push (λ column. get_or (map (slot_value f) slots) column 0) columns place
         ∙ ap (λ values. values ++ get_or (map (slot_value f) slots) place 0 ∷ []) (g.places.values f)
         ∙ ap (λ value. map f classes ++ value ∷ []) here
         ∙ sym (map_push f classes n)
 
-pub gathered_skip : (slots : List Slot) (classes columns : List ℕ) (n : ℕ) → IsGathered slots classes columns n → (Contains slots (Class n) → ⊥) → IsGathered slots classes columns (n + 1)
+pub gathered_skip : (slots : List Slot) (classes columns : List ℕ) (n : ℕ)
+    → IsGathered slots classes columns n → (Contains slots (Class n) → ⊥)
+    → IsGathered slots classes columns (n + 1)
 gathered_skip slots classes columns n g none = record {
   rising = g.rising;
   below = All-weaker (λ c. c < n) (λ c. c < n + 1) (λ c h. omega arith) classes g.below;
@@ -73,7 +83,8 @@ gathered_skip slots classes columns n g none = record {
       | inr ge ↦ (let e : c ≡ n = omega arith in absurd (none (subst (λ k. Contains slots (Class k)) e h)))
     ]
 
-pub gathered_all : (slots : List Slot) (classes columns : List ℕ) (limit : ℕ) → IsGathered slots classes columns limit → All (IsSlotBelow limit) slots → AreClassesOf slots classes
+pub gathered_all : (slots : List Slot) (classes columns : List ℕ) (limit : ℕ)
+    → IsGathered slots classes columns limit → All (IsSlotBelow limit) slots → AreClassesOf slots classes
 gathered_all slots classes columns limit g all = record {
   rising = g.rising;
   members = λ c. (
@@ -83,7 +94,8 @@ gathered_all slots classes columns limit g all = record {
 }
 
 -- the slots are over their classes
-pub slots_over : (slots : List Slot) (classes : List ℕ) → AreClassesOf slots classes → All (IsSlotOver classes) slots
+pub slots_over : (slots : List Slot) (classes : List ℕ) → AreClassesOf slots classes
+    → All (IsSlotOver classes) slots
 slots_over slots classes are k d l c e = (are.members c).1 (k, l, get_or_default slots k (Class c) d l ∙ e)
 
 pub rising_distinct : (classes : List ℕ) → AllPairs (λ a b. a < b) classes → AreDistinct classes

@@ -1,5 +1,6 @@
 -- The tests that decide which rows a selection keeps.
-use Rattle.std.proofs.Common.{◌≡◌, ◌+◌, ◌<◌, ◌&&◌, ◌≤◌, ℕ, zero, suc, Bool, true, List, [], ◌∷◌, ◌++◌, length, map, filter, take, get_or, All, refl, sym, ap, subst, ◌∙◌, slice_index, arith}
+use Rattle.std.proofs.Common.{◌≡◌, ◌+◌, ◌<◌, ◌&&◌, ◌≤◌, ℕ, zero, suc, Bool, true, List, [], ◌∷◌, ◌++◌, length}
+use Rattle.std.proofs.Common.{map, filter, take, get_or, All, refl, sym, ap, subst, ◌∙◌, slice_index, arith}
 use Rattle.std.specs.Bool.{Decides}
 use Rattle.std.proofs.lemmas.Bool.Decides.{Decides-eqb, same_from_decides}
 use Rattle.std.proofs.lemmas.List.{length-map, length-take-le, map_more, take_all, take_more}
@@ -18,17 +19,31 @@ record FitsMore (row values : List ℕ) (sources : List Source) (i : ℕ) (d : S
   pub before : take i row ≡ looked_at (take i sources) values
   pub here : get_or row i 0 ≡ value_at values (get_or sources i d)
 
-fits_less : (row values : List ℕ) (sources : List Source) (i : ℕ) (d : Source) → i < length row → i < length sources → take (i + 1) row ≡ looked_at (take (i + 1) sources) values → FitsMore row values sources i d
+fits_less : (row values : List ℕ) (sources : List Source) (i : ℕ) (d : Source) → i < length row
+    → i < length sources → take (i + 1) row ≡ looked_at (take (i + 1) sources) values
+    → FitsMore row values sources i d
 fits_less row values sources i d l m e =
-    let parts : take i row ++ get_or row i 0 ∷ [] ≡ looked_at (take i sources) values ++ value_at values (get_or sources i d) ∷ [] =
+    let parts : take i row ++ get_or row i 0 ∷ [] ≡ looked_at (take i sources) values
+    ++ value_at values (get_or sources i d) ∷ [] =
     sym (take_more row i 0 l) ∙ e ∙ map_more (value_at values) sources i d m in
     let long : length (take i row) ≡ length (looked_at (take i sources) values) =
-    omega (arith, length-take-le i row (omega arith), length-map (take i sources) (value_at values), length-take-le i sources (omega arith)) in
-    let (before, last) = same_parts (take i row) (looked_at (take i sources) values) (get_or row i 0 ∷ []) (value_at values (get_or sources i d) ∷ []) long parts in
+    omega (
+      arith,
+      length-take-le i row (omega arith),
+      length-map (take i sources) (value_at values),
+      length-take-le i sources (omega arith),
+    ) in
+    let (before, last) = same_parts (take i row) (looked_at (take i sources) values) (get_or row i 0 ∷ [])
+    (value_at values (get_or sources i d) ∷ []) long parts in
     record { before = before; here = cc }
 
 -- a test more, of the source at i
-pub test_more : (tests : List Test) (test : Test) (row values : List ℕ) (sources : List Source) (i : ℕ) (d : Source) → i < length row → i < length sources → test.column ≡ i → value_at row test.source ≡ value_at values (get_or sources i d) → Decides (passes_all tests row) (take i row ≡ looked_at (take i sources) values) → Decides (passes_all (tests ++ test ∷ []) row) (take (i + 1) row ≡ looked_at (take (i + 1) sources) values)
+pub test_more : (tests : List Test) (test : Test) (row values : List ℕ) (sources : List Source) (i : ℕ)
+    (d : Source) → i < length row → i < length sources → test.column ≡ i
+    → value_at row test.source ≡ value_at values (get_or sources i d)
+    → Decides (passes_all tests row) (take i row ≡ looked_at (take i sources) values)
+    → Decides (passes_all (tests ++ test ∷ []) row)
+    (take (i + 1) row ≡ looked_at (take (i + 1) sources) values)
 test_more tests test row values sources i d l m at value so_far = (forth, back)
   where
     step : passes_all (tests ++ test ∷ []) row ≡ (passes_all tests row && (passes row test && true))
@@ -36,8 +51,10 @@ test_more tests test row values sources i d l m at value so_far = (forth, back)
 
     tested : Decides (passes row test) (get_or row i 0 ≡ value_at values (get_or sources i d))
     tested = (
-      λ t. ap (λ k. get_or row k 0) (sym at) ∙ (Decides-eqb (slice_index row test.column) (value_at row test.source)).0 t ∙ value,
-      λ e. (Decides-eqb (slice_index row test.column) (value_at row test.source)).1 (ap (λ k. get_or row k 0) at ∙ e ∙ sym value),
+      λ t. ap (λ k. get_or row k 0) (sym at)
+          ∙ (Decides-eqb (slice_index row test.column) (value_at row test.source)).0 t ∙ value,
+      λ e. (Decides-eqb (slice_index row test.column) (value_at row test.source)).1
+          (ap (λ k. get_or row k 0) at ∙ e ∙ sym value),
     )
 
     first_of_both : (a b : Bool) → (a && (b && true)) ≡ true → a ≡ true
@@ -49,58 +66,78 @@ test_more tests test row values sources i d l m at value so_far = (forth, back)
     both : (a b : Bool) → a ≡ true → b ≡ true → (a && (b && true)) ≡ true
     both a b h k = grind arith
 
-    forth : passes_all (tests ++ test ∷ []) row ≡ true → take (i + 1) row ≡ looked_at (take (i + 1) sources) values
+    forth : passes_all (tests ++ test ∷ []) row ≡ true
+        → take (i + 1) row ≡ looked_at (take (i + 1) sources) values
     forth h =
-        fits_more row values sources i d l m (so_far.0 (first_of_both _ _ (sym step ∙ h))) (tested.0 (second_of_both _ _ (sym step ∙ h)))
+        fits_more row values sources i d l m (so_far.0 (first_of_both _ _ (sym step ∙ h)))
+        (tested.0 (second_of_both _ _ (sym step ∙ h)))
 
-    back : take (i + 1) row ≡ looked_at (take (i + 1) sources) values → passes_all (tests ++ test ∷ []) row ≡ true
+    back : take (i + 1) row ≡ looked_at (take (i + 1) sources) values
+        → passes_all (tests ++ test ∷ []) row ≡ true
     back e =
         let parts : FitsMore row values sources i d = fits_less row values sources i d l m e in
         step ∙ both _ _ (so_far.1 parts.before) (tested.1 parts.here)
 
 -- no test more, where the source at i is the value at i itself
-pub test_left : (tests : List Test) (source : Source) (row values : List ℕ) (sources : List Source) (i : ℕ) (d : Source) → i < length row → i < length sources → source ≡ Column i → value_at row source ≡ value_at values (get_or sources i d) → Decides (passes_all tests row) (take i row ≡ looked_at (take i sources) values) → Decides (passes_all tests row) (take (i + 1) row ≡ looked_at (take (i + 1) sources) values)
+pub test_left : (tests : List Test) (source : Source) (row values : List ℕ) (sources : List Source) (i : ℕ)
+    (d : Source) → i < length row → i < length sources → source ≡ Column i
+    → value_at row source ≡ value_at values (get_or sources i d)
+    → Decides (passes_all tests row) (take i row ≡ looked_at (take i sources) values)
+    → Decides (passes_all tests row) (take (i + 1) row ≡ looked_at (take (i + 1) sources) values)
 test_left tests source row values sources i d l m is value so_far =
     let here : get_or row i 0 ≡ value_at values (get_or sources i d) = sym (ap (value_at row) is) ∙ value in (
       λ h. fits_more row values sources i d l m (so_far.0 h) here,
-      λ e. so_far.1 (let parts : FitsMore row values sources i d = fits_less row values sources i d l m e in parts.before),
+      λ e. so_far.1 (let parts : FitsMore row values sources i d = fits_less row values sources i d l m e in
+          parts.before),
     )
 
 -- the tests of all sources
-pub tests_are : (tests : List Test) (row : List ℕ) (sources : List Source) (columns : List ℕ) (i : ℕ) → length row ≤ i → length sources ≤ i → Decides (passes_all tests row) (take i row ≡ looked_at (take i sources) (picked columns row)) → passes_all tests row ≡ fits_slots sources columns row
+pub tests_are : (tests : List Test) (row : List ℕ) (sources : List Source) (columns : List ℕ) (i : ℕ)
+    → length row ≤ i → length sources ≤ i → Decides (passes_all tests row)
+    (take i row ≡ looked_at (take i sources) (picked columns row))
+    → passes_all tests row ≡ fits_slots sources columns row
 tests_are tests row sources columns i l m so_far =
     let rows : take i row ≡ row = take_all i row l in
-    let wanted : looked_at (take i sources) (picked columns row) ≡ looked_at sources (picked columns row) = ap (λ s. looked_at s (picked columns row)) (take_all i sources m) in
-    same_from_decides _ _ (λ h. sym rows ∙ so_far.0 h ∙ wanted, λ e. so_far.1 (rows ∙ e ∙ sym wanted)) (bytes_eq-Decides row (looked_at sources (picked columns row)))
+    let wanted : looked_at (take i sources) (picked columns row) ≡ looked_at sources (picked columns row) =
+    ap (λ s. looked_at s (picked columns row)) (take_all i sources m) in
+    same_from_decides _ _ (λ h. sym rows ∙ so_far.0 h ∙ wanted, λ e. so_far.1 (rows ∙ e ∙ sym wanted))
+    (bytes_eq-Decides row (looked_at sources (picked columns row)))
 
 -- tests that say the same of each row keep the same rows
-pub filter_agree : (p q : List ℕ → Bool) (rows : List (List ℕ)) → All (λ row. p row ≡ q row) rows → filter p rows ≡ filter q rows
+pub filter_agree : (p q : List ℕ → Bool) (rows : List (List ℕ)) → All (λ row. p row ≡ q row) rows
+    → filter p rows ≡ filter q rows
 filter_agree p q [] same = refl
 filter_agree p q (row ∷ rows) same =
     let first : p row ≡ q row = All-head (λ r. p r ≡ q r) row rows same in
-    let rest : filter p rows ≡ filter q rows = filter_agree p q rows (All-tail (λ r. p r ≡ q r) row rows same) in
+    let rest : filter p rows ≡ filter q rows = filter_agree p q rows
+    (All-tail (λ r. p r ≡ q r) row rows same) in
     rw (first, rest) refl
 
 -- without a test and with all columns, each row is kept as it is
-pub all_kept : (F : List ℕ → List ℕ) (p : List ℕ → Bool) (rows : List (List ℕ)) → All (λ row. F row ≡ row) rows → All (λ row. p row ≡ true) rows → map F (filter p rows) ≡ rows
+pub all_kept : (F : List ℕ → List ℕ) (p : List ℕ → Bool) (rows : List (List ℕ))
+    → All (λ row. F row ≡ row) rows → All (λ row. p row ≡ true) rows → map F (filter p rows) ≡ rows
 all_kept F p [] same kept = refl
 all_kept F p (row ∷ rows) same kept =
     let first : p row ≡ true = All-head (λ r. p r ≡ true) row rows kept in
     let here : F row ≡ row = All-head (λ r. F r ≡ r) row rows same in
-    let rest : map F (filter p rows) ≡ rows = all_kept F p rows (All-tail (λ r. F r ≡ r) row rows same) (All-tail (λ r. p r ≡ true) row rows kept) in
+    let rest : map F (filter p rows) ≡ rows = all_kept F p rows (All-tail (λ r. F r ≡ r) row rows same)
+    (All-tail (λ r. p r ≡ true) row rows kept) in
     rw (first, here, rest) refl
 
 -- all columns in their order have the row
 pub picked_all : (columns row : List ℕ) → AreAll columns (length row) → picked columns row ≡ row
 picked_all columns row (len, places) =
-    sym (ap (λ front. picked front row) (take_all (length row) columns (omega arith))) ∙ front (length row) (omega arith) ∙ take_all (length row) row (omega arith)
+    sym (ap (λ front. picked front row) (take_all (length row) columns (omega arith)))
+    ∙ front (length row) (omega arith) ∙ take_all (length row) row (omega arith)
   where
     front : (n : ℕ) → n ≤ length row → picked (take n columns) row ≡ take n row
     front zero l = refl
     front (suc n) l =
         let next : n + 1 ≡ suc n = omega arith in
-        let here : get_or row (get_or columns n 0) 0 ≡ get_or row n 0 = ap (λ k. get_or row k 0) (places n (omega arith)) in
+        let here : get_or row (get_or columns n 0) 0 ≡ get_or row n 0 =
+        ap (λ k. get_or row k 0) (places n (omega arith)) in
         let step : picked (take (n + 1) columns) row ≡ take (n + 1) row =
-        map_more (slice_index row) columns n 0 (omega arith) ∙ ap (λ values. values ++ get_or row (get_or columns n 0) 0 ∷ []) (front n (omega arith))
+        map_more (slice_index row) columns n 0 (omega arith)
+        ∙ ap (λ values. values ++ get_or row (get_or columns n 0) 0 ∷ []) (front n (omega arith))
         ∙ ap (λ value. take n row ++ value ∷ []) here ∙ sym (take_more row n 0 (omega arith)) in
         subst (λ k. picked (take k columns) row ≡ take k row) next step

@@ -1,4 +1,5 @@
--- Relations as sets of assignments, and what the join, the projection, the semijoin and the selections of relations are.
+-- Relations as sets of assignments, and what the join, the projection, the semijoin and the selections of
+-- relations are.
 use Rattle.std.specs.Prelude.{◌≡◌, ◌≢◌, ◌↔◌, ◌<◌, ℕ, List, length, map, All, Contains, not, filter, Bool}
 use Rattle.std.specs.List.{AllPairs, list_any}
 use Rattle.std.specs.Prelude.{◌==◌}
@@ -10,7 +11,8 @@ use Rattle.pl_join.specs.declared.slot.Slot.TheVariants.{Fixed, Class}
 abbrev pub Assignment : Type 0
 Assignment = ℕ → ℕ
 
--- a relation as its callers see it: its classes, and its rows, with one value for each class, in the order of the classes
+-- a relation as its callers see it: its classes, and its rows, with one value for each class, in the order of
+-- the classes
 pub record ClassRows : Type 0 where
   pub classes : List ℕ
   pub rows : List (List ℕ)
@@ -19,7 +21,8 @@ pub record ClassRows : Type 0 where
 abbrev pub AreDistinct : List ℕ → Type 0
 AreDistinct classes = AllPairs (λ a b. a ≢ b) classes
 
--- what every relation keeps: distinct classes below 64, and the rows of a table with one column for each of them
+-- what every relation keeps: distinct classes below 64, and the rows of a table with one column for each of
+-- them
 pub record IsRelation (relation : ClassRows) : Type 0 where
   pub distinct : AreDistinct relation.classes
   pub below : All (λ c. c < 64) relation.classes
@@ -39,7 +42,8 @@ AgreeOnShared left right f g = (c : ℕ) → Contains left.classes c → Contain
 
 -- the projection onto the classes of `to`: the assignments of `from`, as far as these classes
 abbrev pub IsProjectionOf : ClassRows → ClassRows → Type 0
-IsProjectionOf from to = (f : Assignment) → Holds to f ↔ ((g : Assignment) × Holds from g × Agree to.classes f g)
+IsProjectionOf from to = (f : Assignment) → Holds to f
+    ↔ ((g : Assignment) × Holds from g × Agree to.classes f g)
 
 -- the join: the assignments whose part on each relation's classes is in that relation
 abbrev pub IsJoinOf : ClassRows → ClassRows → ClassRows → Type 0
@@ -48,7 +52,8 @@ IsJoinOf left right joined = (f : Assignment) → Holds joined f ↔ (Holds left
 -- the semijoin: the assignments of `keep` that agree with one of `by` on all classes that the two share
 abbrev pub IsSemijoinOf : ClassRows → ClassRows → ClassRows → Type 0
 IsSemijoinOf keep by kept =
-    (f : Assignment) → Holds kept f ↔ (Holds keep f × ((g : Assignment) × Holds by g × AgreeOnShared keep by f g))
+    (f : Assignment) → Holds kept f
+    ↔ (Holds keep f × ((g : Assignment) × Holds by g × AgreeOnShared keep by f g))
 
 -- the assignment is one of each relation's
 abbrev pub HoldsAll : List ClassRows → Assignment → Type 0
@@ -65,7 +70,8 @@ slot_value f (Class class) = f class
 
 -- the selection: the assignments under which the values of the slots are a row of the table
 abbrev pub IsSelectionOf : List (List ℕ) → List Slot → ClassRows → Type 0
-IsSelectionOf rows slots selected = (f : Assignment) → Holds selected f ↔ Contains rows (map (slot_value f) slots)
+IsSelectionOf rows slots selected = (f : Assignment) → Holds selected f
+    ↔ Contains rows (map (slot_value f) slots)
 
 -- these are the classes of the slots, each once, by rising number
 pub record AreClassesOf (slots : List Slot) (classes : List ℕ) : Type 0 where
@@ -82,7 +88,8 @@ IsSlotBelow limit slot = (c : ℕ) → slot ≡ Class c → c < limit
 
 -- the assignments of a relation that give two slots different values
 abbrev pub AreUnequalOf : ClassRows → Slot → Slot → ClassRows → Type 0
-AreUnequalOf relation a b kept = (f : Assignment) → Holds kept f ↔ (Holds relation f × (slot_value f a ≢ slot_value f b))
+AreUnequalOf relation a b kept = (f : Assignment) → Holds kept f
+    ↔ (Holds relation f × (slot_value f a ≢ slot_value f b))
 
 -- the assignments of a relation under which the values of the slots are no row of the table
 abbrev pub AreAbsentOf : ClassRows → List (List ℕ) → List Slot → ClassRows → Type 0

@@ -1,5 +1,6 @@
 -- Where the values of slots and classes stand in a row, and which rows are picked and kept by them.
-use Rattle.std.specs.Prelude.{◌≡◌, ◌↔◌, ◌<◌, ◌==◌, ◌++◌, ℕ, Bool, not, List, length, drop, map, filter, All, Contains, slice_index}
+use Rattle.std.specs.Prelude.{◌≡◌, ◌↔◌, ◌<◌, ◌==◌, ◌++◌, ℕ, Bool, not, List, length, drop, map, filter, All}
+use Rattle.std.specs.Prelude.{Contains, slice_index}
 use Rattle.std.specs.List.{AllPairs, list_any, list_all}
 use Rattle.std.specs.Str.{bytes_eq}
 use Rattle.pl_rows.specs.Rows.{Rows, AreRows, begins_with}
@@ -52,7 +53,8 @@ fits_slots sources columns row = bytes_eq row (looked_at sources (picked columns
 
 -- these are all columns of rows of a width, in their order
 abbrev pub AreAll : List ℕ → ℕ → Type 0
-AreAll columns arity = (length columns ≡ arity) × ((column : ℕ) → column < arity → slice_index columns column ≡ column)
+AreAll columns arity = (length columns ≡ arity)
+    × ((column : ℕ) → column < arity → slice_index columns column ≡ column)
 
 -- whether the row has a test's value in its column
 abbrev pub passes : List ℕ → Test → Bool
@@ -99,6 +101,8 @@ shared_with classes others = filter (λ c. has_class others c) classes
 abbrev pub glued : ℕ → List ℕ → List ℕ → List ℕ
 glued width row other = row ++ drop width other
 
--- the rows that join a row: behind it each row whose first values are the row's in the columns, without these values
+-- the rows that join a row: behind it each row whose first values are the row's in the columns, without these
+-- values
 abbrev pub joined_with : List (List ℕ) → List ℕ → List ℕ → List (List ℕ)
-joined_with others columns row = map (glued (length columns) row) (filter (begins_with (picked columns row)) others)
+joined_with others columns row = map (glued (length columns) row)
+    (filter (begins_with (picked columns row)) others)

@@ -1,4 +1,5 @@
-//! The filters of a relation: by two slots with different values, and by slots whose row a table doesn't have.
+//! The filters of a relation: by two slots with different values, and by slots whose row a table doesn't
+//! have.
 
 ghost use Rattle.std.specs.Prelude.{◌≡◌, ◌+◌, ◌*◌, ◌<◌, ◌≤◌, ◌^◌, ℕ, Bool, length, take, min, map};
 ghost use Rattle.std.specs.Prelude.{filter, All, Contains, IfOk, IfSome, IfNone, OnOk};
@@ -198,7 +199,8 @@ fn first_left_out<L: Ledger>(
     table.len()
 }
 
-/// Whether the row is kept, by one probe. `values` is room for the values of the sources, and `near` is for `is_there`.
+/// Whether the row is kept, by one probe. `values` is room for the values of the sources, and `near` is for
+/// `is_there`.
 #[inline(always)]
 fn keeps<L: Ledger>(
     row: &[u32],

@@ -1,6 +1,7 @@
 //! The rows of an index whose keys are the rows of a table.
 
-ghost use Rattle.std.specs.Prelude.{◌≡◌, ◌↔◌, ◌+◌, ◌*◌, ◌<◌, ◌≤◌, ◌^◌, length, filter, IsTrue, IfOk, IfSome, IfNone};
+ghost use Rattle.std.specs.Prelude.{◌≡◌, ◌↔◌, ◌+◌, ◌*◌, ◌<◌, ◌≤◌, ◌^◌, length, filter, IsTrue, IfOk, IfSome};
+ghost use Rattle.std.specs.Prelude.{IfNone};
 ghost use Rattle.pl_rows.specs.Rows.{AreRows, SameRows};
 ghost use Rattle.pl_join.specs.Found.{has_key, rows_in, AreRanges, AreFound};
 
@@ -9,8 +10,8 @@ use pl_steps::Steps;
 use std::alloc::{AllocError, Global};
 use std::sync::ledger::Ledger;
 
-/// The rows of the index whose keys are rows of the table, where some are not; None where all are, and then nothing is
-/// copied.
+/// The rows of the index whose keys are rows of the table, where some are not; None where all are, and then
+/// nothing is copied.
 ///
 /// It takes two probes per row of the table, one of them a look-up.
 pub fn rows_found<L: Ledger>(

@@ -16,11 +16,11 @@ use pl_steps::Steps;
 use std::alloc::{AllocError, Global};
 use std::sync::ledger::Ledger;
 
-/// The join: over the classes of `left`, then the other classes of `right` in their order, the rows whose parts are in
-/// both relations.
+/// The join: over the classes of `left`, then the other classes of `right` in their order, the rows whose
+/// parts are in both relations.
 ///
-/// The rows of `right` are indexed by the shared classes, and looked up for each row of `left`. So the rows come out in
-/// order, and are not sorted.
+/// The rows of `right` are indexed by the shared classes, and looked up for each row of `left`. So the rows
+/// come out in order, and are not sorted.
 pub fn hash_join<L: Ledger>(
     alloc: Global,
     left: &Relation,
@@ -92,7 +92,8 @@ fn joined_rows<L: Ledger>(
     requires few { left.now.arity + index.now.table.arity < 2 ^ 32 }
     requires rows { AreRows index.now.table.arity index.now.table.rows }
     ensures arity { IfOk result (λ t. t.arity ≡ left.now.arity + (index.now.table.arity - index.now.width)) }
-    ensures rows { IfOk result (λ t. AreRows (left.now.arity + (index.now.table.arity - index.now.width)) t.rows) }
+    ensures rows { IfOk result
+        (λ t. AreRows (left.now.arity + (index.now.table.arity - index.now.width)) t.rows) }
     ensures same { IfOk result (λ t. SameRows t.rows
         (flat_map (joined_with index.now.table.rows columns.now) left.now.rows)) }
     ensures rise { steps.old ≤ steps.new }
@@ -125,7 +126,8 @@ fn append_matches<L: Ledger>(
     requires within { range.to ≤ length table.now.rows }
     requires width { width ≤ table.now.arity }
     ensures matches { OnOk result (flat.new.items
-        ≡ flat.old.items ++ concat (map (glued width row.now) (slice_range table.now.rows range.from range.to))) }
+        ≡ flat.old.items
+        ++ concat (map (glued width row.now) (slice_range table.now.rows range.from range.to))) }
     ensures rise { steps.old ≤ steps.new }
 {
     for place in range.from..range.to {

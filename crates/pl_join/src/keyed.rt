@@ -1,6 +1,6 @@
 //! A relation that is looked up by its first classes, and the semijoins with it.
 
-ghost use Rattle.std.specs.Prelude.{◌≡◌, ◌↔◌, ◌+◌, ◌*◌, ◌<◌, ◌≤◌, ◌++◌, ℕ, length, All, Contains};
+ghost use Rattle.std.specs.Prelude.{◌≡◌, ◌↔◌, ◌+◌, ◌*◌, ◌<◌, ◌≤◌, ◌++◌, ℕ, [], length, All, Contains};
 ghost use Rattle.std.specs.Prelude.{IsTrue, IfOk, IfSome, IfNone};
 ghost use Rattle.std.specs.List.{list_all, list_any};
 ghost use Rattle.pl_join.specs.Relation.{Assignment, AreDistinct, Holds, IsRelation, IsJoinOf};
@@ -33,7 +33,8 @@ impl Model for Keyed {
 
     ghost Value = { KeyedRows };
 
-    ghost view = { λ k. record { relation = relation_of k.classes.items k.indexed; width = k.indexed.width } };
+    ghost view = { λ k.
+        record { relation = relation_of k.classes.items k.indexed; width = k.indexed.width } };
 
     ghost invariant = { λ k. IsKeyedBy k.classes.items k.indexed };
 }
@@ -123,9 +124,30 @@ impl Keyed {
 
     /// The rows: one value for each class, in the order of the classes.
     pub fn table(&self) -> &Table
-        ensures { result.now ≡ record { arity = length self.now.relation.classes; rows = self.now.relation.rows } }
+        ensures { result.now
+            ≡ record { arity = length self.now.relation.classes; rows = self.now.relation.rows } }
     {
         self.indexed.table()
+    }
+
+    /// The relation, without the index. It takes no probe. The only error is want of memory.
+    pub fn copied(&self, alloc: Global) -> Result<Relation, AllocError>
+        ensures { IfOk result (λ r. r ≡ self.now.relation) }
+    {
+        let classes = Vec::from_slice(alloc, &self.classes)?;
+        let table = self.indexed.table().copied(alloc)?;
+        Ok(Relation::new(classes, table))
+    }
+
+    /// The relation over the same classes that has no row. It takes no probe. The only error is want of
+    /// memory.
+    pub fn emptied(&self, alloc: Global) -> Result<Relation, AllocError>
+        ensures { IfOk result (λ r. r ≡ record { classes = self.now.relation.classes; rows = [] }) }
+    {
+        let classes = Vec::from_slice(alloc, &self.classes)?;
+        let arity = self.indexed.table().arity();
+        let table = Table::from_ascending(arity, 0, Vec::new(alloc));
+        Ok(Relation::new(classes, table))
     }
 
     /// The table with the index of the key.
@@ -156,7 +178,8 @@ fn are_met(classes: &[u32], others: &[u32]) -> bool
 /// The semijoin of `keep` by a keyed relation, where it has fewer rows than `keep`; None where it has every
 /// row of `keep`, which is then not copied. The key has just the classes that the two share.
 ///
-/// It takes at most two probes per row of `keep`, one of them a look-up. The rows of `by` are not gone through.
+/// It takes at most two probes per row of `keep`, one of them a look-up. The rows of `by` are not gone
+/// through.
 pub fn reduction_by_keyed<L: Ledger>(
     alloc: Global,
     keep: &Relation,

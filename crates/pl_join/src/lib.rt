@@ -1,4 +1,5 @@
-//! Relations over classes of parameters, and their operations: selection, filters, projection, semijoin and join.
+//! Relations over classes of parameters, and their operations: selection, filters, projection, semijoin and
+//! join.
 //!
 //! What a relation is, which assignments it holds, and what each operation gives, in the words of database
 //! theory, stand in `specs/Relation.antt`.

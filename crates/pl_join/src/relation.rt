@@ -8,7 +8,8 @@ use pl_rows::Table;
 use std::alloc::{AllocError, Global};
 use std::marker::Model;
 
-/// A set of assignments of values to classes: distinct classes below 64, and a table with one column for each of them.
+/// A set of assignments of values to classes: distinct classes below 64, and a table with one column for each
+/// of them.
 ///
 /// Two relations with the same classes in the same order that hold the same assignments are the same
 /// (`laws::one_relation_for_a_set`).
@@ -66,7 +67,8 @@ impl Relation {
         Ok(Relation { classes, table })
     }
 
-    /// The relation over the same classes that has no row. It takes no probe. The only error is want of memory.
+    /// The relation over the same classes that has no row. It takes no probe. The only error is want of
+    /// memory.
     pub fn emptied(&self, alloc: Global) -> Result<Relation, AllocError>
         ensures { IfOk result (λ r. r ≡ record { classes = self.now.classes; rows = [] }) }
     {

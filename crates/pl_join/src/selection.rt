@@ -22,8 +22,9 @@ const CLASSES: u32 = 64;
 /// The relation over the classes of the slots, by rising number, whose rows are the values for which the row
 /// of the slots is in the table. There is one slot for each column.
 ///
-/// It takes at most one probe per row. A row is compared only at fixed slots and where a class stands again. Where the
-/// slots are rising classes, the table is copied; other rows are sorted unless they come out in order.
+/// It takes at most one probe per row. A row is compared only at fixed slots and where a class stands again.
+/// Where the slots are rising classes, the table is copied; other rows are sorted unless they come out in
+/// order.
 pub fn select<L: Ledger>(
     alloc: Global,
     table: &Table,
@@ -58,7 +59,8 @@ fn classes_of(alloc: Global, slots: &[Slot]) -> Result<(Vec<u32>, Vec<usize>), A
     Ok((classes, columns))
 }
 
-/// Appends the class and a place where it stands, if it stands in the slots. Those before it are gathered already.
+/// Appends the class and a place where it stands, if it stands in the slots. Those before it are gathered
+/// already.
 fn gather(
     slots: &[Slot],
     class: u32,

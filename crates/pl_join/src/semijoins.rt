@@ -38,8 +38,8 @@ pub fn semijoin<L: Ledger>(
     }
 }
 
-/// The semijoin of `keep` by `by`, where it has fewer rows than `keep`; None where it has every row of `keep`, which is
-/// then not copied.
+/// The semijoin of `keep` by `by`, where it has fewer rows than `keep`; None where it has every row of
+/// `keep`, which is then not copied.
 ///
 /// It takes at most two probes per row of `keep` and one per row of `by`, and none where one of the two has
 /// no row, or where they share no class. The rows that are kept are not sorted. Those of `by` are projected
@@ -56,7 +56,8 @@ pub fn reduction<L: Ledger>(
     ensures fewer { IfOk result (λ r. IfSome r (λ kept. length kept.rows < length keep.now.rows)) }
     ensures cost { steps.new ≤ steps.old + 2 * length keep.now.rows + length by.now.rows }
     ensures empty { (keep.now.rows ≡ []) ⊎ (by.now.rows ≡ []) → steps.new ≡ steps.old }
-    ensures apart { ((c : ℕ) → Contains by.now.classes c → Contains keep.now.classes c → ⊥) → steps.new ≡ steps.old }
+    ensures apart { ((c : ℕ) → Contains by.now.classes c → Contains keep.now.classes c → ⊥)
+        → steps.new ≡ steps.old }
     ensures rise { steps.old ≤ steps.new }
 {
     if keep.table().is_empty() {

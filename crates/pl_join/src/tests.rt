@@ -41,7 +41,8 @@ enum Call {
     Join(Rows, &'static [Slot]),
 }
 
-/// A table, the slots that select a relation from it, a call on that relation, and the classes and rows that it gives.
+/// A table, the slots that select a relation from it, a call on that relation, and the classes and rows that
+/// it gives.
 struct Case {
     from: Rows,
     slots: &'static [Slot],

@@ -14,8 +14,9 @@ use std::sync::ledger::Ledger;
 
 /// The join of all relations, over their classes by first appearance, within one relation by rising number.
 ///
-/// It begins with the first relation, goes on with the first remaining one that shares a class with those joined, and
-/// takes the first remaining one where none does. That order changes the work, and neither the rows nor the classes.
+/// It begins with the first relation, goes on with the first remaining one that shares a class with those
+/// joined, and takes the first remaining one where none does. That order changes the work, and neither the
+/// rows nor the classes.
 ///
 /// The only error is want of memory. The probes are those of the joins, and one per row of what is brought
 /// into order at the end: a join whose classes came in another order. For one relation it takes at most one

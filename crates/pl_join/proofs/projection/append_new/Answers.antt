@@ -6,7 +6,8 @@ use Rattle.pl_join.proofs.projection.append_new.Goals as goal
 
 pub returns-then-ends_with-clause-rows : goal.returns-then-ends_with-clause-rows
 returns-then-ends_with-clause-rows c =
-    let last : drop (length c.args.flat.now.items - length c.args.row.now) c.args.flat.now.items ≡ c.args.row.now =
+    let last : drop (length c.args.flat.now.items - length c.args.row.now)
+    c.args.flat.now.items ≡ c.args.row.now =
     rw c.deref.ensures.value at (c.ends_with.ensures.0 c.if-ends_with.true) in
     held_already _ _ _ _ c.requires.whole refl c.if-count-gt0.true last
 

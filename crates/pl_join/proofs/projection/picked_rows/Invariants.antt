@@ -8,6 +8,7 @@ invariant-loop-i g l = record {
   values : length l.values ≡ length l.columns;
   few : l.count ≤ l.i;
   whole : length l.flat.items ≡ length l.columns * l.count;
-  rows : SameRows (rows_of (length l.columns) l.count l.flat.items) (map (picked l.columns) (take l.i l.table.rows));
+  rows : SameRows (rows_of (length l.columns) l.count l.flat.items)
+      (map (picked l.columns) (take l.i l.table.rows));
   cost : l.steps ≡ l.initial.steps + l.i;
 }

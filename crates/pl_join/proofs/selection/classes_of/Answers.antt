@@ -4,17 +4,21 @@ use Rattle.pl_join.proofs.Gathering.{gathered_none, gathered_all}
 use Rattle.pl_join.proofs.selection.classes_of.Goals as goal
 
 pub loop-class-init : goal.loop-class-init
-loop-class-init c = rw (c.new-classes.ensures.items, c.new-columns.ensures.items) (gathered_none c.args.slots.now)
+loop-class-init c = rw (c.new-classes.ensures.items, c.new-columns.ensures.items)
+    (gathered_none c.args.slots.now)
 
 pub returns-clause-classes : goal.returns-clause-classes
 returns-clause-classes c =
     let end : c.loop-class.class ≡ 64 = omega arith in
-    gathered_all _ _ _ 64 (subst (IsGathered c.args.slots.now c.loop-class.classes.items c.loop-class.columns.items) end c.loop-class.invariant) c.requires
+    gathered_all _ _ _ 64
+    (subst (IsGathered c.args.slots.now c.loop-class.classes.items c.loop-class.columns.items) end
+    c.loop-class.invariant) c.requires
 
 pub returns-clause-below : goal.returns-clause-below
 returns-clause-below c =
     let end : c.loop-class.class ≡ 64 = omega arith in
-    (subst (IsGathered c.args.slots.now c.loop-class.classes.items c.loop-class.columns.items) end c.loop-class.invariant).below
+    (subst (IsGathered c.args.slots.now c.loop-class.classes.items c.loop-class.columns.items) end
+    c.loop-class.invariant).below
 
 pub returns-clause-places : goal.returns-clause-places
 returns-clause-places c = c.loop-class.invariant.places

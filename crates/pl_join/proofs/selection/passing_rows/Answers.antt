@@ -13,7 +13,8 @@ loop-i-preserved g c = elim c.if-passes.branch [
     whole = rw (w.flat-is, w.in_ok-append.ensures.items, w.count-is, w.pick.ensures)
         (whole_more _ _ _ _ c.loop-i.invariant.whole (length-map c.args.columns.now _));
     rows = rw (w.flat-is, w.in_ok-append.ensures.items, w.count-is, w.pick.ensures)
-        (kept_mapped_more (picked c.args.columns.now) (passes_all c.args.tests.now) _ _ _ _ _ _ c.row-row.ensures.row c.loop-i.invariant.whole (length-map c.args.columns.now _)
+        (kept_mapped_more (picked c.args.columns.now) (passes_all c.args.tests.now) _ _ _ _ _ _
+        c.row-row.ensures.row c.loop-i.invariant.whole (length-map c.args.columns.now _)
         (sym c.passes.ensures ∙ w.if-passes.true) c.loop-i.invariant.rows);
     cost = omega arith;
   }
@@ -22,7 +23,8 @@ loop-i-preserved g c = elim c.if-passes.branch [
     few = omega arith;
     whole = rw (w.flat-is, w.count-is) c.loop-i.invariant.whole;
     rows = rw (w.flat-is, w.count-is)
-        (c.loop-i.invariant.rows ∙ ap (map (picked c.args.columns.now)) (sym (left_out (passes_all c.args.tests.now) _ _ _ c.row-row.ensures.row
+        (c.loop-i.invariant.rows ∙ ap (map (picked c.args.columns.now))
+        (sym (left_out (passes_all c.args.tests.now) _ _ _ c.row-row.ensures.row
         (sym c.passes.ensures ∙ w.if-passes.false))));
     cost = omega arith;
   }
@@ -32,5 +34,6 @@ pub returns-clause-same : goal.returns-clause-same
 returns-clause-same g c =
     let all = take_all c.loop-i.i c.args.table.now.rows (omega (arith, c.len-len.ensures.len)) in
     same_along _ _ _
-    (c.loop-i.invariant.rows ∙ ap (λ rows. map (picked c.args.columns.now) (filter (passes_all c.args.tests.now) rows)) all)
+    (c.loop-i.invariant.rows
+    ∙ ap (λ rows. map (picked c.args.columns.now) (filter (passes_all c.args.tests.now) rows)) all)
     c.from_rows.ensures.same

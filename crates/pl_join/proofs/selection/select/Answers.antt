@@ -10,29 +10,42 @@ pub sources_of-requires : goal.sources_of-requires
 sources_of-requires g c = rw c.deref.ensures.value (slots_over _ _ c.in_ok-classes.ensures.classes)
 
 pub fitting_rows-requires-clause-columns : goal.fitting_rows-requires-clause-columns
-fitting_rows-requires-clause-columns g c = rw (c.deref-2.ensures.value, ← c.requires.arity) c.in_ok-classes.ensures.places.within
+fitting_rows-requires-clause-columns g c = rw (c.deref-2.ensures.value, ← c.requires.arity)
+    c.in_ok-classes.ensures.places.within
 
 pub fitting_rows-requires-clause-sources : goal.fitting_rows-requires-clause-sources
 fitting_rows-requires-clause-sources g c =
-    let same = ap length c.deref.ensures.value ∙ sym c.in_ok-classes.ensures.places.len ∙ sym (ap length c.deref-2.ensures.value) in
-    rw c.deref-3.ensures.value (subst (λ n. All (IsWithin n) c.in_ok-sources.sources.items) same c.in_ok-sources.ensures.within)
+    let same = ap length c.deref.ensures.value ∙ sym c.in_ok-classes.ensures.places.len
+    ∙ sym (ap length c.deref-2.ensures.value) in
+    rw c.deref-3.ensures.value
+    (subst (λ n. All (IsWithin n) c.in_ok-sources.sources.items) same c.in_ok-sources.ensures.within)
 
 pub fitting_rows-requires-clause-few : goal.fitting_rows-requires-clause-few
 fitting_rows-requires-clause-few g c =
-    omega (arith, ap length c.deref-2.ensures.value, c.in_ok-classes.ensures.places.len, few_classes c.in_ok-classes.classes.items 64 (rising_distinct _ c.in_ok-classes.ensures.classes.rising) c.in_ok-classes.ensures.below)
+    omega (
+      arith,
+      ap length c.deref-2.ensures.value,
+      c.in_ok-classes.ensures.places.len,
+      few_classes c.in_ok-classes.classes.items 64
+          (rising_distinct _ c.in_ok-classes.ensures.classes.rising) c.in_ok-classes.ensures.below,
+    )
 
 pub new-requires-clause-arity : goal.new-requires-clause-arity
-new-requires-clause-arity g c = c.in_ok-kept.ensures.arity ∙ ap length c.deref-2.ensures.value ∙ c.in_ok-classes.ensures.places.len
+new-requires-clause-arity g c = c.in_ok-kept.ensures.arity ∙ ap length c.deref-2.ensures.value
+    ∙ c.in_ok-classes.ensures.places.len
 
 pub new-requires-clause-distinct : goal.new-requires-clause-distinct
 new-requires-clause-distinct g c = rising_distinct _ c.in_ok-classes.ensures.classes.rising
 
 pub new-requires-clause-rows : goal.new-requires-clause-rows
 new-requires-clause-rows g c =
-    subst (λ n. AreRows n c.in_ok-kept.kept.rows) (ap length c.deref-2.ensures.value ∙ c.in_ok-classes.ensures.places.len) c.in_ok-kept.ensures.rows
+    subst (λ n. AreRows n c.in_ok-kept.kept.rows)
+    (ap length c.deref-2.ensures.value ∙ c.in_ok-classes.ensures.places.len) c.in_ok-kept.ensures.rows
 
 pub returns-clause-rows : goal.returns-clause-rows
 returns-clause-rows g c =
-    selected_made c.args.table.now.rows _ c.args.slots.now c.in_ok-classes.classes.items c.in_ok-classes.columns.items _ _ c.in_ok-sources.sources.items _ c.in_ok-kept.kept
-    c.in_ok-classes.ensures.places.values c.deref.ensures.value c.in_ok-sources.ensures.values c.deref-2.ensures.value c.deref-3.ensures.value
+    selected_made c.args.table.now.rows _ c.args.slots.now c.in_ok-classes.classes.items
+    c.in_ok-classes.columns.items _ _ c.in_ok-sources.sources.items _ c.in_ok-kept.kept
+    c.in_ok-classes.ensures.places.values c.deref.ensures.value c.in_ok-sources.ensures.values
+    c.deref-2.ensures.value c.deref-3.ensures.value
     c.in_ok-kept.ensures.same c.new.ensures

@@ -16,4 +16,5 @@ loop-class-preserved c = elim c.if-not-has.branch [
 ]
 
 pub returns : goal.returns
-returns c = c.loop-class.invariant ∙ ap (λ classes. without classes c.args.others.now) (take_all c.loop-class.class-index c.args.classes.now c.loop-class-test.false)
+returns c = c.loop-class.invariant ∙ ap (λ classes. without classes c.args.others.now)
+    (take_all c.loop-class.class-index c.args.classes.now c.loop-class-test.false)

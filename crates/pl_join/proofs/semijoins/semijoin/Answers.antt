@@ -5,6 +5,8 @@ use Rattle.pl_join.proofs.semijoins.semijoin.Goals as goal
 
 pub returns-in-None-clause-rows : goal.returns-in-None-clause-rows
 returns-in-None-clause-rows g c =
-    let whole = subst (λ (o : Option ClassRows). IfNone o (IsSemijoinOf c.args.keep.now c.args.by.now c.args.keep.now)) c.in-None.is c.in_ok-kept.ensures.same in
+    let whole = subst
+    (λ (o : Option ClassRows). IfNone o (IsSemijoinOf c.args.keep.now c.args.by.now c.args.keep.now))
+    c.in-None.is c.in_ok-kept.ensures.same in
     IfOk-weaker _ (λ (r : ClassRows). r ≡ c.args.keep.now) (IsSemijoinOf c.args.keep.now c.args.by.now)
     (λ r e. subst (IsSemijoinOf c.args.keep.now c.args.by.now) (sym e) whole) c.copied.ensures

@@ -17,4 +17,5 @@ loop-class-preserved c = elim c.if-has.branch [
 ]
 
 pub returns : goal.returns
-returns c = c.loop-class.invariant ∙ ap (λ classes. shared_with classes c.args.others.now) (take_all c.loop-class.class-index c.args.classes.now c.loop-class-test.false)
+returns c = c.loop-class.invariant ∙ ap (λ classes. shared_with classes c.args.others.now)
+    (take_all c.loop-class.class-index c.args.classes.now c.loop-class-test.false)

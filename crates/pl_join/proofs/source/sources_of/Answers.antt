@@ -8,11 +8,17 @@ use Rattle.pl_join.proofs.source.sources_of.Goals as goal
 
 pub loop-slot-preserved : goal.loop-slot-preserved
 loop-slot-preserved c = record {
-  len = rw c.in_ok-push.ensures.items (omega (arith, length_push c.loop-slot.sources.items c.source_of.result, c.loop-slot.invariant.len));
-  within = rw c.in_ok-push.ensures.items (All-push (IsWithin (length c.args.classes.now)) _ _ c.loop-slot.invariant.within c.source_of.ensures.within);
-  values = λ f. rw c.in_ok-push.ensures.items (sources_more _ _ _ _ _ _ f c.loop-slot-test.true (c.loop-slot.invariant.values f) (c.source_of.ensures.value f));
+  len = rw c.in_ok-push.ensures.items
+      (omega (arith, length_push c.loop-slot.sources.items c.source_of.result, c.loop-slot.invariant.len));
+  within = rw c.in_ok-push.ensures.items
+      (All-push (IsWithin (length c.args.classes.now)) _ _ c.loop-slot.invariant.within
+      c.source_of.ensures.within);
+  values = λ f. rw c.in_ok-push.ensures.items
+      (sources_more _ _ _ _ _ _ f c.loop-slot-test.true (c.loop-slot.invariant.values f)
+      (c.source_of.ensures.value f));
 }
 
 pub returns-clause-values : goal.returns-clause-values
 returns-clause-values c f =
-    c.loop-slot.invariant.values f ∙ ap (map (slot_value f)) (take_all c.loop-slot.slot-index c.args.slots.now c.loop-slot-test.false)
+    c.loop-slot.invariant.values f ∙ ap (map (slot_value f))
+    (take_all c.loop-slot.slot-index c.args.slots.now c.loop-slot-test.false)

@@ -7,5 +7,6 @@ abbrev pub invariant-loop-slot : goal.invariant-loop-slot
 invariant-loop-slot l = record {
   len : length l.sources.items ≡ l.slot-index;
   within : All (IsWithin (length l.classes)) l.sources.items;
-  values : (f : ℕ → ℕ) → looked_at l.sources.items (map f l.classes) ≡ map (slot_value f) (take l.slot-index l.slots);
+  values : (f : ℕ → ℕ) → looked_at l.sources.items (map f l.classes) ≡ map (slot_value f)
+      (take l.slot-index l.slots);
 }

@@ -7,7 +7,9 @@ use Rattle.pl_join.proofs.tests.are_over.Goals as goal
 pub loop-slot-preserved : goal.loop-slot-preserved
 loop-slot-preserved c =
     let yes : c.is_over.result ≡ true = search rules in
-    All-more (IsSlotOver c.args.classes.now) c.args.slots.now c.loop-slot.slot-index _ c.loop-slot-test.true c.loop-slot.invariant (c.is_over.ensures yes)
+    All-more (IsSlotOver c.args.classes.now) c.args.slots.now c.loop-slot.slot-index _ c.loop-slot-test.true
+    c.loop-slot.invariant (c.is_over.ensures yes)
 
 pub returns : goal.returns
-returns c t = subst (All (IsSlotOver c.args.classes.now)) (take_all c.loop-slot.slot-index c.args.slots.now c.loop-slot-test.false) c.loop-slot.invariant
+returns c t = subst (All (IsSlotOver c.args.classes.now))
+    (take_all c.loop-slot.slot-index c.args.slots.now c.loop-slot-test.false) c.loop-slot.invariant

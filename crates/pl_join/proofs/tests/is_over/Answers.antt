@@ -5,4 +5,5 @@ use Rattle.pl_join.proofs.tests.is_over.Goals as goal
 
 pub returns-in-Class : goal.returns-in-Class
 returns-in-Class c t =
-    slot_over c.args.classes.now c.args.slot c.in-Class.class c.in-Class.is ((has_class-Contains c.args.classes.now c.in-Class.class).0 (sym c.has.ensures ∙ t))
+    slot_over c.args.classes.now c.args.slot c.in-Class.class c.in-Class.is
+    ((has_class-Contains c.args.classes.now c.in-Class.class).0 (sym c.has.ensures ∙ t))

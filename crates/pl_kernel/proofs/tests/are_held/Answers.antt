@@ -7,8 +7,10 @@ use Rattle.pl_kernel.proofs.tests.are_held.Goals as goal
 pub loop-class-preserved : goal.loop-class-preserved
 loop-class-preserved c =
     let yes : c.has.result ≡ true = search rules in
-    All-more (Contains c.args.classes.now) c.args.wanted.now c.loop-class.class-index 0 c.loop-class-test.true c.loop-class.invariant
+    All-more (Contains c.args.classes.now) c.args.wanted.now c.loop-class.class-index 0 c.loop-class-test.true
+    c.loop-class.invariant
     ((has_class-Contains c.args.classes.now _).0 (sym c.has.ensures ∙ yes))
 
 pub returns : goal.returns
-returns c t = subst (All (Contains c.args.classes.now)) (take_all c.loop-class.class-index c.args.wanted.now c.loop-class-test.false) c.loop-class.invariant
+returns c t = subst (All (Contains c.args.classes.now))
+    (take_all c.loop-class.class-index c.args.wanted.now c.loop-class-test.false) c.loop-class.invariant
