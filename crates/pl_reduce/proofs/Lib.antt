@@ -8,9 +8,16 @@ mod Roots
 mod Arrangements
 mod PassLemmas
 mod Emptied
+mod Options
+mod Neighbours
 mod Costs
 mod Stores
 mod Numbers
 mod Reductions
+mod Beginnings
+mod Wholes
+mod Fixations
+mod Keyings
+mod Endings
 mod PlanNodes
 mod EdgeSets

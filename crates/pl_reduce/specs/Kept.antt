@@ -1,28 +1,31 @@
 -- What the fields of a reduced join keep.
-use Rattle.std.specs.Prelude.{◌≡◌, ◌<◌, ℕ, List, length, All, map}
+use Rattle.std.specs.Prelude.{◌≡◌, ◌<◌, ℕ, List, length, map}
 use Rattle.pl_join.specs.Relation.{ClassRows, IsRelation}
+use Rattle.pl_join.specs.Keyed.{KeyedRows}
 use Rattle.pl_hyper.specs.Ears.{Removal}
 use Rattle.pl_reduce.specs.Nodes.{Node, node_at}
 use Rattle.pl_reduce.specs.Plan.{relation_at}
 use Rattle.pl_reduce.specs.Arranged.{node_for}
 use Rattle.pl_reduce.specs.Reduced.{IsReduced}
 use Rattle.pl_reduce.specs.declared.reduced.Stored.{Stored}
+use Rattle.pl_reduce.specs.declared.reduced.Stored.TheVariants.{Own, Lent}
+
+-- the relation of a stored node, with its key
+abbrev pub keyed_of : Stored → KeyedRows
+keyed_of (Own keyed) = keyed
+keyed_of (Lent keyed) = keyed.now
 
 -- a stored node as its callers see it
 abbrev pub node_of : Stored → Node
-node_of stored = record {
-  relation = record { classes = stored.classes.items; rows = stored.indexed.table.rows };
-  width = stored.indexed.width;
-}
+node_of stored = record { relation = (keyed_of stored).relation; width = (keyed_of stored).width }
 
--- each table has a column for each class, and the whole is reduced
-pub record IsKept (classes : List ℕ) (nodes : List Stored) : Type 0 where
-  pub arities : All (λ stored. stored.indexed.table.arity ≡ length stored.classes.items) nodes
-  pub reduced : IsReduced (record { classes = classes; nodes = map node_of nodes })
+-- the whole is reduced
+abbrev pub IsKept : List ℕ → List Stored → Type 0
+IsKept classes nodes = IsReduced (record { classes = classes; nodes = map node_of nodes })
 
 -- the relations are stored as nodes, one after another
 pub record AreStored (plan : Removal) (relations : List ClassRows) (stored : List Stored) : Type 0 where
   pub many : length stored ≡ length relations
-  pub nodes : (i : ℕ) → i < length relations → node_at (map node_of stored) i ≡ node_for plan i (relation_at relations i)
+  pub nodes : (i : ℕ) → i < length relations → node_at (map node_of stored) i ≡ node_for plan i
+      (relation_at relations i)
   pub relations_are : (i : ℕ) → i < length relations → IsRelation (relation_at relations i)
-  pub arities : All (λ stored. stored.indexed.table.arity ≡ length stored.classes.items) stored

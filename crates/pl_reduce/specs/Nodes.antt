@@ -1,9 +1,11 @@
--- The nodes of a join that was reduced along a removal of ears: node 0 is the root, and the others are the removed edges.
+-- The nodes of a join that was reduced along a removal of ears: node 0 is the root, and the others are the
+-- removed edges.
 use Rattle.std.specs.Prelude.{ℕ, List, [], length, map, take, drop, slice_index_or}
 use Rattle.pl_rows.specs.Rows.{Rows, IndexedRows}
 use Rattle.pl_join.specs.Relation.{ClassRows}
 
--- a node: its relation, and how many of its classes a node that is walked before it holds; these are its first ones
+-- a node: its relation, and how many of its classes a node that is walked before it holds; these are its
+-- first ones
 pub record Node : Type 0 where
   pub relation : ClassRows
   pub width : ℕ
@@ -15,7 +17,8 @@ pub record ReducedJoin : Type 0 where
 
 -- the node with a number
 abbrev pub node_at : List Node → ℕ → Node
-node_at nodes number = slice_index_or nodes number (record { relation = record { classes = []; rows = [] }; width = 0 })
+node_at nodes number = slice_index_or nodes number
+    (record { relation = record { classes = []; rows = [] }; width = 0 })
 
 abbrev pub relations_of : List Node → List ClassRows
 relations_of nodes = map (λ node. node.relation) nodes

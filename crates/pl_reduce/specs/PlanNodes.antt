@@ -16,10 +16,12 @@ IsNodeOf plan edge (suc i) = (i < length plan.removed) × ((d : Ear) → (ear_at
 pub record AreParentNodes (plan : Removal) (parents : List ℕ) : Type 0 where
   pub many : length parents ≡ suc (length plan.removed)
   pub root : slice_index parents 0 ≡ 0
-  pub are : (i : ℕ) (d : Ear) → i < length plan.removed → IsNodeOf plan (ear_at plan i d).parent (slice_index parents (suc i))
+  pub are : (i : ℕ) (d : Ear) → i < length plan.removed
+      → IsNodeOf plan (ear_at plan i d).parent (slice_index parents (suc i))
 
 -- the relations, numbered as the nodes are, are over the classes of the core and of the ears
 pub record AreOverNodes (plan : Removal) (nodes : List ClassRows) : Type 0 where
   pub many : length nodes ≡ suc (length plan.removed)
   pub root : (c : ℕ) → Contains (relation_at nodes 0).classes c ↔ IsHeldBy plan.edges plan.core c
-  pub ears : (i c : ℕ) (d : Ear) → i < length plan.removed → Contains (relation_at nodes (suc i)).classes c ↔ Holds plan.edges (ear_at plan i d).edge c
+  pub ears : (i c : ℕ) (d : Ear) → i < length plan.removed → Contains (relation_at nodes (suc i)).classes c
+      ↔ Holds plan.edges (ear_at plan i d).edge c

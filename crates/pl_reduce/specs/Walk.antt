@@ -1,4 +1,5 @@
--- The walk over the nodes, in which a cursor reads their tables: the root first, then the others from the last to the first.
+-- The walk over the nodes, in which a cursor reads their tables: the root first, then the others from the
+-- last to the first.
 use Rattle.std.specs.Prelude.{ℕ, List, [], ◌∷◌, reverse, IsTrue, map}
 use Rattle.std.specs.List.{flat_map, list_any}
 use Rattle.pl_rows.specs.Rows.{begins_with}

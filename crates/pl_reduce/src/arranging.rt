@@ -1,33 +1,35 @@
 //! The relations of a join with their columns in class order.
 
-ghost use Rattle.std.specs.Prelude.{◌≡◌, ◌+◌, ◌<◌, ◌≤◌, ℕ, length, All, Contains, IfOk, OnOk};
-ghost use Rattle.pl_join.specs.Relation.{AreDistinct};
-ghost use Rattle.pl_reduce.specs.Plan.{relation_at};
-ghost use Rattle.pl_reduce.specs.Passes.{rows_at, total_rows};
+ghost use Rattle.std.specs.Prelude.{◌≡◌, ◌+◌, ◌<◌, ◌≤◌, ℕ, Some, length, All, Contains, IfOk, OnOk};
+ghost use Rattle.pl_join.specs.Relation.{ClassRows, AreDistinct};
+ghost use Rattle.pl_reduce.specs.Recipes.{option_at};
+ghost use Rattle.pl_reduce.specs.Lent.{option_rows, own_rows};
 ghost use Rattle.pl_reduce.specs.Arranged.{ordered, IsArrangedAt, AreArrangedBelow};
 
+use crate::pairs::own_at;
 use pl_join::{Relation, project};
 use pl_steps::Steps;
 use std::alloc::{AllocError, Global};
 use std::sync::ledger::Ledger;
 
-/// Puts the columns of all relations behind the first into the order. A relation that has them so is left as it is.
+/// Puts the columns of all relations behind the root's into the order. A relation that has them so is left as
+/// it is.
 pub fn arrange_all<L: Ledger>(
     alloc: Global,
-    nodes: &mut Vec<Relation>,
+    own: &mut Vec<Option<Relation>>,
     order: &[u32],
     steps: &mut Steps<L>,
 ) -> Result<(), AllocError>
     requires distinct { AreDistinct order.now }
-    requires held { (k : ℕ) → 0 < k → k < length nodes.old.items
-        → All (Contains order.now) (relation_at nodes.old.items k).classes }
+    requires held { (k : ℕ) (r : ClassRows) → 0 < k → option_at own.old.items k ≡ Some r
+        → All (Contains order.now) r.classes }
     ensures arranged { OnOk result
-        (AreArrangedBelow order.now nodes.old.items nodes.new.items (length nodes.old.items)) }
-    ensures cost { steps.new ≤ steps.old + total_rows nodes.old.items }
+        (AreArrangedBelow order.now own.old.items own.new.items (length own.old.items)) }
+    ensures cost { steps.new ≤ steps.old + own_rows own.old.items }
     ensures rise { steps.old ≤ steps.new }
 {
-    for node in 1..nodes.len() {
-        arrange_node(alloc, nodes, node, order, steps)?;
+    for node in 1..own.len() {
+        arrange_node(alloc, own, node, order, steps)?;
     }
     Ok(())
 }
@@ -35,28 +37,31 @@ pub fn arrange_all<L: Ledger>(
 /// Puts the columns of one relation into the order. It takes no probe where they stand so already.
 fn arrange_node<L: Ledger>(
     alloc: Global,
-    nodes: &mut Vec<Relation>,
+    own: &mut Vec<Option<Relation>>,
     node: usize,
     order: &[u32],
     steps: &mut Steps<L>,
 ) -> Result<(), AllocError>
-    requires within { node < length nodes.old.items }
+    requires within { node < length own.old.items }
     requires distinct { AreDistinct order.now }
-    requires held { All (Contains order.now) (relation_at nodes.old.items node).classes }
-    ensures arranged { OnOk result (IsArrangedAt order.now nodes.old.items nodes.new.items node) }
-    ensures cost { steps.new ≤ steps.old + rows_at nodes.old.items node }
-    ensures no_cost { (relation_at nodes.old.items node).classes
-        ≡ ordered order.now (relation_at nodes.old.items node).classes → steps.new ≡ steps.old }
+    requires held { (r : ClassRows) → option_at own.old.items node ≡ Some r
+        → All (Contains order.now) r.classes }
+    ensures arranged { OnOk result (IsArrangedAt order.now own.old.items own.new.items node) }
+    ensures cost { steps.new ≤ steps.old + option_rows (option_at own.old.items node) }
+    ensures no_cost { (r : ClassRows) → option_at own.old.items node ≡ Some r
+        → r.classes ≡ ordered order.now r.classes → steps.new ≡ steps.old }
     ensures rise { steps.old ≤ steps.new }
 {
-    let relation = &nodes[node];
+    let Some(relation) = own_at(own, node) else {
+        return Ok(());
+    };
     let held = relation.classes();
     let classes = in_order(alloc, order, held)?;
     if held == classes.as_slice() {
         return Ok(());
     }
     let arranged = project(alloc, relation, &classes, steps)?;
-    nodes[node] = arranged;
+    own[node] = Some(arranged);
     Ok(())
 }
 

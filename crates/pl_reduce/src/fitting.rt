@@ -13,7 +13,7 @@ use pl_hyper::EarPlan;
 use pl_join::Relation;
 use std::alloc::{AllocError, Global};
 
-impl Reduced {
+impl Reduced<'_> {
     /// Whether the relations are as `reduce` wants them: there is an edge, `root` is over the classes of the
     /// core's edges, in class order, and `rest` has one relation for each removed ear, over the classes of
     /// the ear's edge in any order.
@@ -39,7 +39,7 @@ impl Reduced {
 }
 
 /// Whether these are the classes of the core's edges, in class order.
-fn is_over_core(alloc: Global, classes: &[u32], plan: &EarPlan) -> Result<bool, AllocError>
+pub fn is_over_core(alloc: Global, classes: &[u32], plan: &EarPlan) -> Result<bool, AllocError>
     ensures { IfOk result (λ yes. IsTrue yes ↔ (classes.now ≡ core_order plan.now)) }
 {
     let order = plan.class_order(alloc)?;
@@ -61,7 +61,7 @@ fn held_by(edges: &[u64], some: &[u32]) -> u64
 }
 
 /// The classes of a set, in the order.
-fn order_of(alloc: Global, order: &[u32], set: u64) -> Result<Vec<u32>, AllocError>
+pub fn order_of(alloc: Global, order: &[u32], set: u64) -> Result<Vec<u32>, AllocError>
     requires { All (λ c. c < 64) order.now }
     ensures { IfOk result (λ v. v.items ≡ filter (λ c. bit_at set c == 1) order.now) }
 {
@@ -94,7 +94,7 @@ fn are_over_ears(rest: &[Relation], plan: &EarPlan) -> bool
 }
 
 /// Whether these are the classes of the edge.
-fn is_over(classes: &[u32], edge: u64) -> bool
+pub fn is_over(classes: &[u32], edge: u64) -> bool
     requires { All (λ c. c < 64) classes.now }
     ensures { IsTrue result ↔ ((c : ℕ) → Contains classes.now c ↔ (bit_at edge c ≡ 1)) }
 {

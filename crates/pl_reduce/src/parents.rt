@@ -8,7 +8,8 @@ use std::alloc::{AllocError, Global};
 
 /// For each node but the root, the node of its ear's parent; the root is its own.
 ///
-/// The parent of an ear is removed later or stays in the core, whose node is the root. The time is linear in the edges.
+/// The parent of an ear is removed later or stays in the core, whose node is the root. The time is linear in
+/// the edges.
 pub fn parent_nodes(alloc: Global, plan: &EarPlan) -> Result<Vec<usize>, AllocError>
     ensures { IfOk result (λ parents. AreParentNodes plan.now parents.items) }
 {

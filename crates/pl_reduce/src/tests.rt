@@ -1,11 +1,19 @@
 //! Joins whose reduction was worked out by hand.
 
-ghost use Rattle.std.specs.Prelude.{◌≡◌, ◌<◌, All, IsTrue};
+ghost use Rattle.std.specs.Prelude.{◌≡◌, ◌↔◌, ◌<◌, ℕ, suc, not, is_some, Some, length, All, Contains, IsTrue};
+ghost use Rattle.std.specs.Prelude.{IfOk};
 ghost use Rattle.pl_join.specs.Relation.{IsSlotBelow};
+ghost use Rattle.pl_hyper.specs.declared.ear.Ear.{Ear};
+ghost use Rattle.pl_hyper.specs.Edges.{Holds};
+ghost use Rattle.pl_hyper.specs.Ears.{ear_at};
+ghost use Rattle.pl_reduce.specs.Plan.{core_order};
+ghost use Rattle.pl_reduce.specs.Recipes.{option_at, AreOverNodesOf, AreGiven};
 
-use crate::Reduced;
+use crate::fitting::{is_over, is_over_core};
+use crate::pairs::own_at;
+use crate::{Recipe, Reduced};
 use Slot::Class;
-use pl_hyper::{Ear, ears};
+use pl_hyper::{Ear, EarPlan, ears};
 use pl_join::{Relation, Slot, hash_join, select};
 use pl_rows::Table;
 use pl_steps::Steps;
@@ -712,7 +720,7 @@ fn reduced_of<L: Ledger>(
     alloc: Global,
     case: &Case,
     steps: &mut Steps<L>,
-) -> Result<Option<Reduced>, AllocError> {
+) -> Result<Option<Reduced<'static>>, AllocError> {
     if case.edges.len() > 64 {
         return Ok(None);
     }
@@ -741,7 +749,7 @@ fn reads<L: Ledger>(table: &Table, rows: &[&[u32]], steps: &mut Steps<L>) -> boo
     true
 }
 
-fn has_nodes<L: Ledger>(join: &Reduced, nodes: &[Node], steps: &mut Steps<L>) -> bool {
+fn has_nodes<L: Ledger>(join: &Reduced<'_>, nodes: &[Node], steps: &mut Steps<L>) -> bool {
     if join.nodes() != nodes.len() {
         return false;
     }
@@ -756,6 +764,14 @@ fn has_nodes<L: Ledger>(join: &Reduced, nodes: &[Node], steps: &mut Steps<L>) ->
     true
 }
 
+/// Whether the join is as the case says.
+fn is_alike<L: Ledger>(join: &Reduced<'_>, case: &Case, steps: &mut Steps<L>) -> bool {
+    if join.classes() != case.classes || join.is_empty() != case.is_empty {
+        return false;
+    }
+    has_nodes(join, case.nodes, steps)
+}
+
 fn is_met<L: Ledger>(alloc: Global, case: &Case, blank: Blank) -> Result<bool, AllocError>
     requires name { blank.name ≡ L.name }
     requires parts { blank.parts ≡ L.parts }
@@ -764,11 +780,204 @@ fn is_met<L: Ledger>(alloc: Global, case: &Case, blank: Blank) -> Result<bool, A
     let mut steps: Steps<L> = Steps::new(blank);
     match reduced_of(alloc, case, &mut steps)? {
         None => Ok(false),
-        Some(join) => {
-            let alike = join.classes() == case.classes && join.is_empty() == case.is_empty;
-            Ok(alike && has_nodes(&join, case.nodes, &mut steps))
+        Some(join) => Ok(is_alike(&join, case, &mut steps)),
+    }
+}
+
+/// Whether the relation is over the classes of the node, in class order at the root.
+fn is_over_node(
+    alloc: Global,
+    plan: &EarPlan,
+    relation: &Relation,
+    node: usize,
+) -> Result<bool, AllocError>
+    ensures root { IfOk result (λ yes. IsTrue yes → node ≡ 0 → relation.now.classes ≡ core_order plan.now) }
+    ensures ear { IfOk result (λ yes. IsTrue yes → (i c : ℕ) (d : Ear) → node ≡ suc i
+        → Contains relation.now.classes c ↔ Holds plan.now.edges (ear_at plan.now i d).edge c) }
+{
+    if node == 0 {
+        return is_over_core(alloc, relation.classes(), plan);
+    }
+    let ears = plan.removed();
+    if node > ears.len() {
+        return Ok(false);
+    }
+    Ok(is_over(
+        relation.classes(),
+        plan.edges()[ears[node - 1].edge as usize],
+    ))
+}
+
+/// The same, where the node has a relation.
+fn is_over_some(
+    alloc: Global,
+    plan: &EarPlan,
+    relations: &[Option<Relation>],
+    node: usize,
+) -> Result<bool, AllocError>
+    requires { node < length relations.now }
+    ensures root { IfOk result (λ yes. IsTrue yes → (r : _) → node ≡ 0 → option_at relations.now node ≡ Some r
+        → r.classes ≡ core_order plan.now) }
+    ensures ear { IfOk result (λ yes. IsTrue yes → (r : _) (i c : ℕ) (d : Ear) → node ≡ suc i
+        → option_at relations.now node ≡ Some r
+        → Contains r.classes c ↔ Holds plan.now.edges (ear_at plan.now i d).edge c) }
+{
+    match own_at(relations, node) {
+        Some(relation) => is_over_node(alloc, plan, relation, node),
+        None => Ok(true),
+    }
+}
+
+fn are_over_nodes(
+    alloc: Global,
+    plan: &EarPlan,
+    relations: &[Option<Relation>],
+) -> Result<bool, AllocError>
+    ensures many { IfOk result (λ yes. IsTrue yes → length relations.now ≡ suc (length plan.now.removed)) }
+    ensures over { IfOk result (λ yes. IsTrue yes → AreOverNodesOf plan.now relations.now) }
+{
+    if relations.len() != plan.removed().len() + 1 {
+        return Ok(false);
+    }
+    for node in 0..relations.len() {
+        if !is_over_some(alloc, plan, relations, node)? {
+            return Ok(false);
         }
     }
+    Ok(true)
+}
+
+/// Whether the relations are given for just the nodes that have no fixed one.
+fn are_apart(recipe: &Recipe, given: &[Option<Relation>]) -> bool
+    ensures many { IsTrue result → length given.now ≡ length recipe.now.fixed }
+    ensures apart { IsTrue result → (k : ℕ) → k < length given.now
+        → is_some (option_at given.now k) ≡ not (is_some (option_at recipe.now.fixed k)) }
+{
+    if given.len() != recipe.nodes() {
+        return false;
+    }
+    for node in 0..given.len() {
+        if given[node].is_some() != !recipe.is_fixed(node) {
+            return false;
+        }
+    }
+    true
+}
+
+/// A copy of the relations of the nodes in the mask, or of those that aren't.
+fn masked(
+    alloc: Global,
+    relations: &[Relation],
+    mask: u64,
+    wanted: bool,
+) -> Result<Vec<Option<Relation>>, AllocError> {
+    let mut some = Vec::new(alloc);
+    for (i, relation) in relations.iter().enumerate() {
+        let is_in = i < 64 && mask >> i & 1 == 1;
+        if is_in == wanted {
+            some.push(Some(relation.copied(alloc)?))?;
+        } else {
+            some.push(None)?;
+        }
+    }
+    Ok(some)
+}
+
+/// The relations of the nodes: the root's, and those of the ears.
+fn nodes_of<L: Ledger>(
+    alloc: Global,
+    case: &Case,
+    plan: &EarPlan,
+    steps: &mut Steps<L>,
+) -> Result<Option<Vec<Relation>>, AllocError> {
+    let Some(root) = root_of(alloc, case.atoms, plan.core(), steps)? else {
+        return Ok(None);
+    };
+    let Some(rest) = rest_of(alloc, case.atoms, plan.removed(), steps)? else {
+        return Ok(None);
+    };
+    let mut nodes = rest;
+    nodes.insert(0, root)?;
+    Ok(Some(nodes))
+}
+
+/// Whether the case's join is as it says where the relations of the nodes in the mask are fixed.
+fn is_met_with<L: Ledger>(
+    alloc: Global,
+    case: &Case,
+    mask: u64,
+    steps: &mut Steps<L>,
+) -> Result<bool, AllocError> {
+    if case.edges.len() > 64 {
+        return Ok(false);
+    }
+    let plan = ears(alloc, case.edges)?;
+    let Some(nodes) = nodes_of(alloc, case, &plan, steps)? else {
+        return Ok(false);
+    };
+    let fixed = masked(alloc, &nodes, mask, true)?;
+    let given = masked(alloc, &nodes, mask, false)?;
+    if plan.core().is_empty() {
+        return Ok(false);
+    }
+    if !are_over_nodes(alloc, &plan, &fixed)? {
+        return Ok(false);
+    }
+    if !are_over_nodes(alloc, &plan, &given)? {
+        return Ok(false);
+    }
+    let recipe = Recipe::of(alloc, &plan, fixed, steps)?;
+    if !are_apart(&recipe, &given) {
+        return Ok(false);
+    }
+    is_alike_with(alloc, &recipe, given, case, steps)
+}
+
+/// Whether the reduction with a recipe is as the case says.
+fn is_alike_with<L: Ledger>(
+    alloc: Global,
+    recipe: &Recipe,
+    given: Vec<Option<Relation>>,
+    case: &Case,
+    steps: &mut Steps<L>,
+) -> Result<bool, AllocError>
+    requires { AreGiven recipe.now given.items }
+{
+    let join = Reduced::reduce_with(alloc, recipe, given, steps)?;
+    Ok(is_alike(&join, case, steps))
+}
+
+/// Whether the case's join is as it says, whatever relations are fixed: none, all, each alone, and all but
+/// each.
+fn is_met_by_recipes<L: Ledger>(
+    alloc: Global,
+    case: &Case,
+    blank: Blank,
+) -> Result<bool, AllocError>
+    requires name { blank.name ≡ L.name }
+    requires parts { blank.parts ≡ L.parts }
+    requires some { 0 < blank.parts }
+{
+    let mut steps: Steps<L> = Steps::new(blank);
+    let every: u64 = !0;
+    for node in 0..16u32 {
+        let alone: u64 = 1 << node;
+        for mask in [0, every, alone, every ^ alone, every / 3, every / 7 << node] {
+            if !is_met_with(alloc, case, mask, &mut steps)? {
+                return Ok(false);
+            }
+        }
+    }
+    Ok(true)
+}
+
+#[test]
+fn recipes_have_the_nodes_by_hand(rt: HostRuntime) -> Result<(), Fail> {
+    for (i, case) in CASES.iter().enumerate() {
+        let met = is_met_by_recipes::<Brand>(rt.alloc(), case, Blank::new(1))?;
+        assert!(rt; met, "case {i}");
+    }
+    Ok(())
 }
 
 #[test]

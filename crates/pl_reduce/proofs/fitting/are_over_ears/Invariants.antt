@@ -6,4 +6,5 @@ use Rattle.pl_reduce.specs.Plan.{relation_at}
 use Rattle.pl_reduce.proofs.fitting.are_over_ears.Given as goal
 
 abbrev pub invariant-loop-i : goal.invariant-loop-i
-invariant-loop-i l = (k c : ℕ) (d : Ear) → k < l.i → Contains (relation_at l.rest k).classes c ↔ Holds l.plan.edges (ear_at l.plan k d).edge c
+invariant-loop-i l = (k c : ℕ) (d : Ear) → k < l.i → Contains (relation_at l.rest k).classes c
+    ↔ Holds l.plan.edges (ear_at l.plan k d).edge c

@@ -7,7 +7,9 @@ use Rattle.pl_reduce.proofs.tests.are_below.Goals as goal
 pub loop-slot-preserved : goal.loop-slot-preserved
 loop-slot-preserved c =
     let yes : c.is_below.result ≡ true = search rules in
-    All-more (IsSlotBelow 64) c.args.slots.now c.loop-slot.slot-index _ c.loop-slot-test.true c.loop-slot.invariant (c.is_below.ensures yes)
+    All-more (IsSlotBelow 64) c.args.slots.now c.loop-slot.slot-index _ c.loop-slot-test.true
+    c.loop-slot.invariant (c.is_below.ensures yes)
 
 pub returns : goal.returns
-returns c t = subst (All (IsSlotBelow 64)) (take_all c.loop-slot.slot-index c.args.slots.now c.loop-slot-test.false) c.loop-slot.invariant
+returns c t = subst (All (IsSlotBelow 64))
+    (take_all c.loop-slot.slot-index c.args.slots.now c.loop-slot-test.false) c.loop-slot.invariant

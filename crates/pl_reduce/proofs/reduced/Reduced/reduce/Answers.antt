@@ -1,71 +1,141 @@
-use Rattle.std.proofs.Common.{◌≡◌, ◌∷◌, ◌<◌, ◌^◌, ◌↔◌, ℕ, length, map, get_or, All, Contains, sym, ap, ◌∙◌, subst, arith}
-use Rattle.pl_join.specs.Relation.{AreDistinct}
-use Rattle.pl_hyper.specs.ClassOrder.{class_order, IsClass}
-use Rattle.pl_reduce.specs.Nodes.{ReducedJoin}
-use Rattle.pl_reduce.specs.Plan.{AreColumns}
+use Rattle.std.proofs.Common.{◌+◌, ◌-◌, ◌*◌, ◌≤◌, ◌∙◌, ◌∷◌, [], List, Option, Some, length, map, subst}
+use Rattle.pl_join.specs.Relation.{ClassRows}
+use Rattle.pl_hyper.specs.ClassOrder.{class_order}
+use Rattle.pl_reduce.specs.Passes.{total_rows}
+use Rattle.pl_reduce.specs.Recipes.{relations_with}
 use Rattle.pl_reduce.specs.Reduced.{IsReductionOf}
-use Rattle.pl_reduce.specs.Kept.{node_of}
-use Rattle.pl_reduce.proofs.Reductions.{AreMade, all_held, arranged_parents, arranged_made, made_columns, made_reduced, made_reduction, cost_of_two, cost_of_all}
+use Rattle.pl_reduce.specs.Runs.{IsRun}
+use Rattle.pl_reduce.specs.Fixing.{IsPlan}
+use Rattle.pl_reduce.proofs.Beginnings.{all_relations, none_lent}
+use Rattle.pl_reduce.proofs.Options.{all_given}
+use Rattle.pl_reduce.proofs.Wholes.{bare, given_cost}
+use Rattle.pl_reduce.proofs.Endings.{IsDone, plan_known, given_there, run_moved, done_held, done_parents}
+use Rattle.pl_reduce.proofs.Endings.{done_kept, done_columns, done_reduction}
 use Rattle.pl_reduce.proofs.reduced.Reduced.reduce.Goals as goal
 
-pub arrange_all-requires-clause-held : goal.arrange_all-requires-clause-held
-arrange_all-requires-clause-held g c =
-    rw (c.in_ok-insert.ensures.items, c.deref.ensures.value)
-    (all_held c.args.plan.now c.args.root c.args.rest.items c.in_ok-classes.classes.items c.requires c.removed.ensures.walkable c.in_ok-classes.ensures.classes)
+pub reduce_nodes-requires-clause-held : goal.reduce_nodes-requires-clause-held
+reduce_nodes-requires-clause-held g c = λ k r some e.
+    (let plan = c.args.plan.now in
+    let given : List (Option ClassRows) = map Some (c.args.root ∷ c.args.rest.items) in
+    let plan_is : IsPlan plan (class_order plan) c.in_ok-parents.parents.items =
+    plan_known plan c.edges.result.now c.in_ok-classes.classes.items c.in_ok-parents.parents.items
+    c.removed-ears.ensures.removal c.removed-ears.ensures.walkable c.edges.ensures.edges
+    c.edges_are_words.ensures c.in_ok-classes.ensures.order c.in_ok-classes.ensures.once
+    c.in_ok-classes.ensures.below c.in_ok-classes.ensures.classes c.in_ok-parents.ensures in
+    let done : IsDone plan [] given [] (class_order plan) c.in_ok-parents.parents.items =
+    record {
+      plan_is = plan_is;
+      relations = all_relations plan c.args.root c.args.rest.items c.requires;
+      lent_are = none_lent plan;
+    } in
+    done_held plan [] given c.in_ok-own.own.items [] (class_order plan) c.in_ok-parents.parents.items
+    c.deref.result.now k r done (c.deref.ensures.value ∙ c.in_ok-classes.ensures.order)
+    c.in_ok-own.ensures some e)
 
-pub reduce_all-requires-clause-parents : goal.reduce_all-requires-clause-parents
-reduce_all-requires-clause-parents g c =
-    let arranged = arranged_made c.args.plan.now c.args.root c.args.rest.items _ _ _ _ c.in_ok-classes.ensures.order c.deref.ensures.value c.in_ok-insert.ensures.items c.in_ok-arrange_all.ensures.arranged in
-    let fits : (e : ℕ) → get_or c.args.plan.now.edges e 0 < 2 ^ 64 = subst (λ edges. (e : ℕ) → get_or edges e 0 < 2 ^ 64) c.edges.ensures.edges c.edges_are_words.ensures in
-    let classes : (k : ℕ) → Contains (class_order c.args.plan.now) k ↔ IsClass c.args.plan.now.edges k = subst (λ order. (k : ℕ) → Contains order k ↔ IsClass c.args.plan.now.edges k) c.in_ok-classes.ensures.order c.in_ok-classes.ensures.classes in
-    rw c.deref-2.ensures.value
-    (arranged_parents c.args.plan.now c.args.root c.args.rest.items c.arrange_all.new.nodes.items c.in_ok-parents.parents.items (class_order c.args.plan.now) fits c.requires c.removed.ensures.walkable classes arranged c.in_ok-parents.ensures)
+pub reduce_nodes-requires-clause-parents : goal.reduce_nodes-requires-clause-parents
+reduce_nodes-requires-clause-parents g c = λ arranged are.
+    (let plan = c.args.plan.now in
+    let given : List (Option ClassRows) = map Some (c.args.root ∷ c.args.rest.items) in
+    let plan_is : IsPlan plan (class_order plan) c.in_ok-parents.parents.items =
+    plan_known plan c.edges.result.now c.in_ok-classes.classes.items c.in_ok-parents.parents.items
+    c.removed-ears.ensures.removal c.removed-ears.ensures.walkable c.edges.ensures.edges
+    c.edges_are_words.ensures c.in_ok-classes.ensures.order c.in_ok-classes.ensures.once
+    c.in_ok-classes.ensures.below c.in_ok-classes.ensures.classes c.in_ok-parents.ensures in
+    let done : IsDone plan [] given [] (class_order plan) c.in_ok-parents.parents.items =
+    record {
+      plan_is = plan_is;
+      relations = all_relations plan c.args.root c.args.rest.items c.requires;
+      lent_are = none_lent plan;
+    } in
+    done_parents plan [] given c.in_ok-own.own.items arranged [] (class_order plan)
+    c.in_ok-parents.parents.items c.deref.result.now c.deref-2.result.now done
+    (c.deref.ensures.value ∙ c.in_ok-classes.ensures.order) c.deref-2.ensures.value c.in_ok-own.ensures
+    are)
 
-pub returns-in_err-reduce_all-clause-cost : goal.returns-in_err-reduce_all-clause-cost
-returns-in_err-reduce_all-clause-cost g c =
-    let arranged = arranged_made c.args.plan.now c.args.root c.args.rest.items _ _ _ _ c.in_ok-classes.ensures.order c.deref.ensures.value c.in_ok-insert.ensures.items c.in_ok-arrange_all.ensures.arranged in
-    let one = rw c.in_ok-insert.ensures.items at c.in_ok-arrange_all.ensures.cost in
-    cost_of_two (c.args.root ∷ c.args.rest.items) c.arrange_all.new.nodes.items (class_order c.args.plan.now) _ (length c.args.rest.items) c.args.steps.now c.arrange_all.new.steps c.reduce_all.new.steps
-    arranged (omega arith) one c.reduce_all.ensures.cost
+pub reduce_nodes-requires-clause-there : goal.reduce_nodes-requires-clause-there
+reduce_nodes-requires-clause-there g c =
+    given_there c.args.plan.now c.in_ok-own.own.items c.args.root c.args.rest.items c.requires
+    c.in_ok-own.ensures
 
 pub returns-in_err-nodes-clause-cost : goal.returns-in_err-nodes-clause-cost
 returns-in_err-nodes-clause-cost g c =
-    let arranged = arranged_made c.args.plan.now c.args.root c.args.rest.items _ _ _ _ c.in_ok-classes.ensures.order c.deref.ensures.value c.in_ok-insert.ensures.items c.in_ok-arrange_all.ensures.arranged in
-    let one = rw c.in_ok-insert.ensures.items at c.in_ok-arrange_all.ensures.cost in
-    cost_of_all (c.args.root ∷ c.args.rest.items) c.arrange_all.new.nodes.items c.reduce_all.new.nodes.items (class_order c.args.plan.now) _ (length c.args.rest.items) c.args.steps.now c.arrange_all.new.steps c.reduce_all.new.steps c.store_all.new.steps
-    arranged c.in_ok-reduce_all.ensures.passed.reduced (omega arith) one c.reduce_all.ensures.cost c.store_all.ensures.cost
-
-pub new-requires : goal.new-requires
-new-requires g c =
-    let arranged = arranged_made c.args.plan.now c.args.root c.args.rest.items _ _ _ _ c.in_ok-classes.ensures.order c.deref.ensures.value c.in_ok-insert.ensures.items c.in_ok-arrange_all.ensures.arranged in
-    let made : AreMade c.args.plan.now c.args.root c.args.rest.items c.arrange_all.new.nodes.items c.reduce_all.new.nodes.items c.in_ok-nodes.nodes.items =
-    record { over = c.requires; are_arranged = arranged; are_passed = c.in_ok-reduce_all.ensures.passed; are_stored = c.in_ok-nodes.ensures.stored } in
-    record {
-      arities = c.in_ok-nodes.ensures.stored.arities;
-      reduced = rw c.in_ok-classes.ensures.order
-          (made_reduced c.args.plan.now c.args.root c.args.rest.items c.arrange_all.new.nodes.items c.reduce_all.new.nodes.items c.in_ok-nodes.nodes.items made c.removed.ensures.removal c.removed.ensures.walkable
-          (subst AreDistinct c.in_ok-classes.ensures.order c.in_ok-classes.ensures.once) (subst (All (λ k. k < 64)) c.in_ok-classes.ensures.order c.in_ok-classes.ensures.below));
-    }
-
-pub returns-clause-columns : goal.returns-clause-columns
-returns-clause-columns g c =
-    let arranged = arranged_made c.args.plan.now c.args.root c.args.rest.items _ _ _ _ c.in_ok-classes.ensures.order c.deref.ensures.value c.in_ok-insert.ensures.items c.in_ok-arrange_all.ensures.arranged in
-    let made : AreMade c.args.plan.now c.args.root c.args.rest.items c.arrange_all.new.nodes.items c.reduce_all.new.nodes.items c.in_ok-nodes.nodes.items =
-    record { over = c.requires; are_arranged = arranged; are_passed = c.in_ok-reduce_all.ensures.passed; are_stored = c.in_ok-nodes.ensures.stored } in
-    subst (λ (join : ReducedJoin). AreColumns c.args.plan.now join.nodes) (sym c.new.ensures) (made_columns c.args.plan.now c.args.root c.args.rest.items c.arrange_all.new.nodes.items c.reduce_all.new.nodes.items c.in_ok-nodes.nodes.items made)
-
-pub returns-clause-reduction : goal.returns-clause-reduction
-returns-clause-reduction g c =
-    let arranged = arranged_made c.args.plan.now c.args.root c.args.rest.items _ _ _ _ c.in_ok-classes.ensures.order c.deref.ensures.value c.in_ok-insert.ensures.items c.in_ok-arrange_all.ensures.arranged in
-    let made : AreMade c.args.plan.now c.args.root c.args.rest.items c.arrange_all.new.nodes.items c.reduce_all.new.nodes.items c.in_ok-nodes.nodes.items =
-    record { over = c.requires; are_arranged = arranged; are_passed = c.in_ok-reduce_all.ensures.passed; are_stored = c.in_ok-nodes.ensures.stored } in
-    let is : c.new.result ≡ record { classes = class_order c.args.plan.now; nodes = map node_of c.in_ok-nodes.nodes.items } =
-    c.new.ensures ∙ ap (λ order. record { classes = order; nodes = map node_of c.in_ok-nodes.nodes.items }) c.in_ok-classes.ensures.order in
-    subst (IsReductionOf (c.args.root ∷ c.args.rest.items)) (sym is) (made_reduction c.args.plan.now c.args.root c.args.rest.items c.arrange_all.new.nodes.items c.reduce_all.new.nodes.items c.in_ok-nodes.nodes.items made)
+    given_cost c.args.root c.args.rest.items _ _
+    (subst (λ own. c.reduce_nodes.new.steps ≤ c.args.steps.now + (3 * length own - 1) * total_rows
+    (relations_with [] own)) c.in_ok-own.ensures c.reduce_nodes.ensures.cost)
 
 pub returns-clause-cost : goal.returns-clause-cost
 returns-clause-cost g c =
-    let arranged = arranged_made c.args.plan.now c.args.root c.args.rest.items _ _ _ _ c.in_ok-classes.ensures.order c.deref.ensures.value c.in_ok-insert.ensures.items c.in_ok-arrange_all.ensures.arranged in
-    let one = rw c.in_ok-insert.ensures.items at c.in_ok-arrange_all.ensures.cost in
-    cost_of_all (c.args.root ∷ c.args.rest.items) c.arrange_all.new.nodes.items c.reduce_all.new.nodes.items (class_order c.args.plan.now) _ (length c.args.rest.items) c.args.steps.now c.arrange_all.new.steps c.reduce_all.new.steps c.store_all.new.steps
-    arranged c.in_ok-reduce_all.ensures.passed.reduced (omega arith) one c.reduce_all.ensures.cost c.store_all.ensures.cost
+    given_cost c.args.root c.args.rest.items _ _
+    (subst (λ own. c.reduce_nodes.new.steps ≤ c.args.steps.now + (3 * length own - 1) * total_rows
+    (relations_with [] own)) c.in_ok-own.ensures c.reduce_nodes.ensures.cost)
+
+pub new-requires : goal.new-requires
+new-requires g c =
+    let plan = c.args.plan.now in
+    let given : List (Option ClassRows) = map Some (c.args.root ∷ c.args.rest.items) in
+    let plan_is : IsPlan plan (class_order plan) c.in_ok-parents.parents.items =
+    plan_known plan c.edges.result.now c.in_ok-classes.classes.items c.in_ok-parents.parents.items
+    c.removed-ears.ensures.removal c.removed-ears.ensures.walkable c.edges.ensures.edges
+    c.edges_are_words.ensures c.in_ok-classes.ensures.order c.in_ok-classes.ensures.once
+    c.in_ok-classes.ensures.below c.in_ok-classes.ensures.classes c.in_ok-parents.ensures in
+    let done : IsDone plan [] given [] (class_order plan) c.in_ok-parents.parents.items =
+    record {
+      plan_is = plan_is;
+      relations = all_relations plan c.args.root c.args.rest.items c.requires;
+      lent_are = none_lent plan;
+    } in
+    let run : IsRun (bare plan) (class_order plan) [] given c.in_ok-nodes.nodes.items =
+    run_moved plan c.edges-edges.result.now c.removed-ears.result.now c.deref.result.now []
+    c.in_ok-own.own.items given c.in_ok-nodes.nodes.items c.edges-edges.ensures.edges
+    c.removed-ears.ensures.removed (c.deref.ensures.value ∙ c.in_ok-classes.ensures.order)
+    c.in_ok-own.ensures c.in_ok-nodes.ensures.run in
+    done_kept plan [] given [] (class_order plan) c.in_ok-parents.parents.items c.in_ok-classes.classes.items
+    c.in_ok-nodes.nodes.items done c.in_ok-classes.ensures.order run
+
+pub returns-clause-columns : goal.returns-clause-columns
+returns-clause-columns g c =
+    let plan = c.args.plan.now in
+    let given : List (Option ClassRows) = map Some (c.args.root ∷ c.args.rest.items) in
+    let plan_is : IsPlan plan (class_order plan) c.in_ok-parents.parents.items =
+    plan_known plan c.edges.result.now c.in_ok-classes.classes.items c.in_ok-parents.parents.items
+    c.removed-ears.ensures.removal c.removed-ears.ensures.walkable c.edges.ensures.edges
+    c.edges_are_words.ensures c.in_ok-classes.ensures.order c.in_ok-classes.ensures.once
+    c.in_ok-classes.ensures.below c.in_ok-classes.ensures.classes c.in_ok-parents.ensures in
+    let done : IsDone plan [] given [] (class_order plan) c.in_ok-parents.parents.items =
+    record {
+      plan_is = plan_is;
+      relations = all_relations plan c.args.root c.args.rest.items c.requires;
+      lent_are = none_lent plan;
+    } in
+    let run : IsRun (bare plan) (class_order plan) [] given c.in_ok-nodes.nodes.items =
+    run_moved plan c.edges-edges.result.now c.removed-ears.result.now c.deref.result.now []
+    c.in_ok-own.own.items given c.in_ok-nodes.nodes.items c.edges-edges.ensures.edges
+    c.removed-ears.ensures.removed (c.deref.ensures.value ∙ c.in_ok-classes.ensures.order)
+    c.in_ok-own.ensures c.in_ok-nodes.ensures.run in
+    done_columns plan [] given [] (class_order plan) c.in_ok-parents.parents.items
+    c.in_ok-classes.classes.items c.in_ok-nodes.nodes.items c.new.result done c.new.ensures run
+
+pub returns-clause-reduction : goal.returns-clause-reduction
+returns-clause-reduction g c =
+    let plan = c.args.plan.now in
+    let given : List (Option ClassRows) = map Some (c.args.root ∷ c.args.rest.items) in
+    let plan_is : IsPlan plan (class_order plan) c.in_ok-parents.parents.items =
+    plan_known plan c.edges.result.now c.in_ok-classes.classes.items c.in_ok-parents.parents.items
+    c.removed-ears.ensures.removal c.removed-ears.ensures.walkable c.edges.ensures.edges
+    c.edges_are_words.ensures c.in_ok-classes.ensures.order c.in_ok-classes.ensures.once
+    c.in_ok-classes.ensures.below c.in_ok-classes.ensures.classes c.in_ok-parents.ensures in
+    let done : IsDone plan [] given [] (class_order plan) c.in_ok-parents.parents.items =
+    record {
+      plan_is = plan_is;
+      relations = all_relations plan c.args.root c.args.rest.items c.requires;
+      lent_are = none_lent plan;
+    } in
+    let run : IsRun (bare plan) (class_order plan) [] given c.in_ok-nodes.nodes.items =
+    run_moved plan c.edges-edges.result.now c.removed-ears.result.now c.deref.result.now []
+    c.in_ok-own.own.items given c.in_ok-nodes.nodes.items c.edges-edges.ensures.edges
+    c.removed-ears.ensures.removed (c.deref.ensures.value ∙ c.in_ok-classes.ensures.order)
+    c.in_ok-own.ensures c.in_ok-nodes.ensures.run in
+    subst (λ xs. IsReductionOf xs c.new.result) (all_given (c.args.root ∷ c.args.rest.items))
+    (done_reduction plan [] given [] (class_order plan) c.in_ok-parents.parents.items
+    c.in_ok-classes.classes.items c.in_ok-nodes.nodes.items c.new.result done c.new.ensures
+    c.in_ok-classes.ensures.order run)
