@@ -1,6 +1,7 @@
 -- parts of a list
 mod Ranges
--- the answers of stages: that they are just the chains of rows, what they begin with, how long they are, and their order
+-- the answers of stages: that they are just the chains of rows, what they begin with, how long they are, and
+-- their order
 mod Chains
 mod Fronts
 mod Ascent

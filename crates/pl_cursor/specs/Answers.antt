@@ -1,11 +1,13 @@
 -- The answers of a walk over a reduced join, and what is left of them on the way.
-use Rattle.std.specs.Prelude.{◌≡◌, ◌↔◌, ◌+◌, ◌<◌, ◌≤◌, ◌++◌, ℕ, zero, suc, Bool, List, [], ◌∷◌, length, map, take, drop, filter, flat_map, All, Contains, IsTrue, Some, slice_get, slice_index, slice_index_or, slice_range}
+use Rattle.std.specs.Prelude.{◌≡◌, ◌↔◌, ◌+◌, ◌<◌, ◌≤◌, ◌++◌, ℕ, zero, suc, Bool, List, [], ◌∷◌, length, map}
+use Rattle.std.specs.Prelude.{take, drop, filter, flat_map, All, Contains, IsTrue, Some, slice_get}
+use Rattle.std.specs.Prelude.{slice_index, slice_index_or, slice_range}
 use Rattle.pl_rows.specs.Rows.{begins_with, is_below, AreRows}
 pub use Rattle.pl_cursor.specs.declared.position.Frame.{Frame}
 pub use Rattle.pl_cursor.specs.Cursor.{is_past}
 
--- A stage of the walk over a reduced join: a node that brings values. `from` is how many values stand before those that it brings,
--- and `keys` are the places among them whose values its rows repeat in front
+-- A stage of the walk over a reduced join: a node that brings values. `from` is how many values stand before
+-- those that it brings, and `keys` are the places among them whose values its rows repeat in front
 pub record Stage : Type 0 where
   pub from : ℕ
   pub keys : List ℕ
@@ -38,7 +40,8 @@ grown stage values row = values ++ drop (length stage.keys) row
 -- the answers that begin with these values, through the stages that are left
 abbrev pub answers : List Stage → List ℕ → List (List ℕ)
 answers [] values = values ∷ []
-answers (stage ∷ stages) values = flat_map (λ row. answers stages (grown stage values row)) (matching stage values)
+answers (stage ∷ stages) values = flat_map (λ row. answers stages (grown stage values row))
+    (matching stage values)
 
 -- the answers through some rows of a stage
 abbrev pub through : List Stage → Stage → List ℕ → List (List ℕ) → List (List ℕ)
@@ -61,7 +64,8 @@ frame_at frames t = slice_index_or frames t (record { at = 0; to = 0 })
 -- the answers that are left in a stage, where `answer` has the values that the stages before it gave
 abbrev pub rest_at : List Stage → List Frame → List ℕ → ℕ → List (List ℕ)
 rest_at stages frames answer t =
-    through (drop (t + 1) stages) (stage_at stages t) (take (stage_at stages t).from answer) (slice_range (stage_at stages t).rows (frame_at frames t).at (frame_at frames t).to)
+    through (drop (t + 1) stages) (stage_at stages t) (take (stage_at stages t).from answer)
+    (slice_range (stage_at stages t).rows (frame_at frames t).at (frame_at frames t).to)
 
 -- the answers that are left in the first `depth` stages: those of the last of them first
 abbrev pub left_in : List Stage → List Frame → List ℕ → ℕ → List (List ℕ)
@@ -71,13 +75,16 @@ left_in stages frames answer (suc t) = rest_at stages frames answer t ++ left_in
 -- of the rows from one place up to another, those that pass a test are just those before a place
 abbrev pub AreFirstIn : (List ℕ → Bool) → List (List ℕ) → ℕ → ℕ → ℕ → Type 0
 AreFirstIn passes rows from to place =
-    (i : ℕ) (row : List ℕ) → from ≤ i → i < to → slice_get rows i ≡ Some row → IsTrue (passes row) ↔ (i < place)
+    (i : ℕ) (row : List ℕ) → from ≤ i → i < to → slice_get rows i ≡ Some row → IsTrue (passes row)
+    ↔ (i < place)
 
--- where a stage is sought that is reached with the front of a tuple: the rows that go on with that front stand from one place up to
--- another, and `place` is the first of them that doesn't bring less than the tuple has there
+-- where a stage is sought that is reached with the front of a tuple: the rows that go on with that front
+-- stand from one place up to another, and `place` is the first of them that doesn't bring less than the tuple
+-- has there
 pub record IsSought (stage : Stage) (brought : ℕ) (past prefix : List ℕ) (from to place : ℕ) : Type 0 where
   pub range : slice_range stage.rows from to ≡ matching stage (take stage.from past)
-  pub prefix_is : prefix ≡ key_of stage.keys (take stage.from past) ++ slice_range past stage.from (stage.from + brought)
+  pub prefix_is : prefix ≡ key_of stage.keys (take stage.from past)
+      ++ slice_range past stage.from (stage.from + brought)
   pub first : AreFirstIn (is_below prefix) stage.rows from to place
   pub low : from ≤ place
   pub high : place ≤ to

@@ -1,5 +1,6 @@
 -- The answers of a reduced join, and a cursor as its callers see it.
-use Rattle.std.specs.Prelude.{◌≡◌, ◌↔◌, ◌∷◌, ℕ, Bool, true, false, cond, List, [], map, Contains, IsTrue, Option, None, Some, MatchOption}
+use Rattle.std.specs.Prelude.{◌≡◌, ◌↔◌, ◌∷◌, ℕ, Bool, true, false, cond, List, [], map, Contains, IsTrue}
+use Rattle.std.specs.Prelude.{Option, None, Some, MatchOption}
 use Rattle.std.specs.Ordering.{is_lt, is_le}
 use Rattle.pl_rows.specs.Rows.{IsAscending, row_cmp}
 use Rattle.pl_join.specs.Relation.{Assignment}

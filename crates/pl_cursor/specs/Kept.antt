@@ -1,5 +1,7 @@
 -- What the parts of a cursor keep, and what the functions inside the crate promise each other.
-use Rattle.std.specs.Prelude.{◌≡◌, ◌+◌, ◌<◌, ◌≤◌, ◌++◌, ◌∷◌, ◌&&◌, [], ℕ, Bool, true, false, cond, List, length, take, drop, filter, Contains, IsTrue, Some, slice_get, slice_index, slice_index_or, slice_range}
+use Rattle.std.specs.Prelude.{◌≡◌, ◌+◌, ◌<◌, ◌≤◌, ◌++◌, ◌∷◌, ◌&&◌, [], ℕ, Bool, true, false, cond, List}
+use Rattle.std.specs.Prelude.{length, take, drop, filter, Contains, IsTrue, Some, slice_get, slice_index}
+use Rattle.std.specs.Prelude.{slice_index_or, slice_range}
 use Rattle.std.specs.List.{list_any}
 use Rattle.pl_rows.specs.Rows.{begins_with, AreRowsOf}
 use Rattle.pl_reduce.specs.Nodes.{ReducedJoin, node_at}
@@ -11,13 +13,15 @@ use Rattle.pl_cursor.specs.declared.layout.Layout.{Layout}
 use Rattle.pl_cursor.specs.declared.position.Position.{Position}
 use Rattle.pl_cursor.specs.declared.narrow.Place.{Place}
 use Rattle.pl_cursor.specs.declared.narrow.Narrowed.{Narrowed}
-use Rattle.pl_cursor.specs.Answers.{Stage, Frame, IsStage, AreStages, IsSought, is_past, key_of, matching, grown, answers, stage_at, frame_at, left_in}
+use Rattle.pl_cursor.specs.Answers.{Stage, Frame, IsStage, AreStages, IsSought, is_past, key_of, matching}
+use Rattle.pl_cursor.specs.Answers.{grown, answers, stage_at, frame_at, left_in}
 use Rattle.pl_cursor.specs.Stages.{place_in, stage_of, stages_of}
 
 -- what is read of the node that is walked at a step
 pub record IsSeen (join : ReducedJoin) (step : ℕ) (seen : Seen) : Type 0 where
   pub within : seen.node < length join.nodes
-  pub walked : drop step (walk_of join.nodes) ≡ node_at join.nodes seen.node ∷ drop (step + 1) (walk_of join.nodes)
+  pub walked : drop step (walk_of join.nodes) ≡ node_at join.nodes seen.node ∷ drop (step + 1)
+      (walk_of join.nodes)
   pub width : seen.width ≡ (node_at join.nodes seen.node).width
   pub arity : seen.arity ≡ length (node_at join.nodes seen.node).relation.classes
 
@@ -51,7 +55,8 @@ NeverEnds (stage ∷ stages) values =
 -- the frame has places of the stage's rows that go on with the values
 pub record IsFrame (stage : Stage) (frame : Frame) (values : List ℕ) : Type 0 where
   pub within : frame.to ≤ length stage.rows
-  pub matching : (place : ℕ) (row : List ℕ) → frame.at ≤ place → place < frame.to → slice_get stage.rows place ≡ Some row →
+  pub matching : (place : ℕ) (row : List ℕ) → frame.at ≤ place → place < frame.to
+      → slice_get stage.rows place ≡ Some row →
       take (length stage.keys) row ≡ key_of stage.keys values
 
 -- the frame of a stage that was gone into
@@ -80,7 +85,8 @@ pub record IsLookedUp (stage : Stage) (answer key : List ℕ) (from to : ℕ) : 
   pub rows : AreRowsOf (key_of stage.keys (take stage.from answer)) stage.rows from to
   pub all : slice_range stage.rows from to ≡ matching stage (take stage.from answer)
 
--- a stage was gone into at the first row that goes on with the answer: the row's values were written, and the rows behind it are left
+-- a stage was gone into at the first row that goes on with the answer: the row's values were written, and the
+-- rows behind it are left
 pub record IsFirst (stage : Stage) (before after : List ℕ) (frame : Frame) : Type 0 where
   pub from : ℕ
   pub row : List ℕ
@@ -91,7 +97,8 @@ pub record IsFirst (stage : Stage) (before after : List ℕ) (frame : Frame) : T
   pub wrote : after ≡ written before stage.from (drop (length stage.keys) row)
 
 -- the first stages were gone into, and so many values are known
-pub record IsDescended (stages : List Stage) (width : ℕ) (frames : List Frame) (answer : List ℕ) (t known : ℕ) : Type 0 where
+pub record IsDescended (stages : List Stage) (width : ℕ) (frames : List Frame) (answer : List ℕ)
+    (t known : ℕ) : Type 0 where
   pub laid : AreStages (drop t stages) known width
   pub onward : NeverEnds (drop t stages) (take known answer)
   pub entered : (s : ℕ) → s < t → IsEntered stages frames answer s
@@ -102,18 +109,21 @@ left_from stages frames answer t known =
     answers (drop t stages) (take known answer) ++ left_in stages frames answer t
 
 -- the first stages were gone into, and what is left there are these answers
-pub record Descends (stages : List Stage) (width : ℕ) (left : List (List ℕ)) (frames : List Frame) (answer : List ℕ) (t : ℕ) : Type 0 where
+pub record Descends (stages : List Stage) (width : ℕ) (left : List (List ℕ)) (frames : List Frame)
+    (answer : List ℕ) (t : ℕ) : Type 0 where
   pub known : ℕ
   pub descended : IsDescended stages width frames answer t known
   pub left_is : left ≡ left_from stages frames answer t known
 
 -- the first stages were gone into, and the walk can go on
-pub record CanDescend (stages : List Stage) (width : ℕ) (frames : List Frame) (answer : List ℕ) (t : ℕ) : Type 0 where
+pub record CanDescend (stages : List Stage) (width : ℕ) (frames : List Frame) (answer : List ℕ)
+    (t : ℕ) : Type 0 where
   pub known : ℕ
   pub descended : IsDescended stages width frames answer t known
 
--- a tuple was looked for among the rows of a stage that go on with its front: where the first of them stands that doesn't bring less
--- than the tuple has there, and whether it brings just that; the rows behind it are left, and itself where it brings more
+-- a tuple was looked for among the rows of a stage that go on with its front: where the first of them stands
+-- that doesn't bring less than the tuple has there, and whether it brings just that; the rows behind it are
+-- left, and itself where it brings more
 pub record IsPlaced (stages : List Stage) (width t : ℕ) (answer : List ℕ) (place : Place) : Type 0 where
   pub from : ℕ
   pub at : ℕ
@@ -121,22 +131,31 @@ pub record IsPlaced (stages : List Stage) (width t : ℕ) (answer : List ℕ) (p
   pub prefix : List ℕ
   pub kind : IsStage (stage_at stages t) (stage_at stages t).from brought
   pub rest : AreStages (drop (t + 1) stages) ((stage_at stages t).from + brought) width
-  pub rows : AreRowsOf (key_of (stage_at stages t).keys (take (stage_at stages t).from answer)) (stage_at stages t).rows from place.frame.to
+  pub rows : AreRowsOf (key_of (stage_at stages t).keys (take (stage_at stages t).from answer))
+      (stage_at stages t).rows from place.frame.to
   pub sought : IsSought (stage_at stages t) brought (take width answer) prefix from place.frame.to at
-  pub yes : place.found ≡ true → (at < place.frame.to) × (slice_get (stage_at stages t).rows at ≡ Some prefix) × (place.frame.at ≡ at + 1)
-  pub no : place.found ≡ false → (place.frame.at ≡ at) × ((row : List ℕ) → at < place.frame.to → slice_get (stage_at stages t).rows at ≡ Some row → row ≡ prefix → ⊥)
+  pub yes : place.found ≡ true → (at < place.frame.to) × (slice_get (stage_at stages t).rows at ≡ Some prefix)
+      × (place.frame.at ≡ at + 1)
+  pub no : place.found ≡ false → (place.frame.at ≡ at)
+      × ((row : List ℕ) → at < place.frame.to → slice_get (stage_at stages t).rows at ≡ Some row
+      → row ≡ prefix → ⊥)
 
--- the first stages were gone into at the rows that bring what a tuple has there: what is past the tuple goes on with its front, or
--- is left in the frames
-pub record Narrows (stages : List Stage) (width : ℕ) (frames : List Frame) (answer : List ℕ) (t : ℕ) : Type 0 where
+-- the first stages were gone into at the rows that bring what a tuple has there: what is past the tuple goes
+-- on with its front, or is left in the frames
+pub record Narrows (stages : List Stage) (width : ℕ) (frames : List Frame) (answer : List ℕ)
+    (t : ℕ) : Type 0 where
   pub known : ℕ
   pub descended : IsDescended stages width frames answer t known
   pub left_is : (inclusive : Bool) → filter (is_past inclusive (take width answer)) (answers stages [])
-      ≡ filter (is_past inclusive (take width answer)) (answers (drop t stages) (take known (take width answer))) ++ left_in stages frames answer t
+      ≡ filter (is_past inclusive (take width answer))
+      (answers (drop t stages) (take known (take width answer))) ++ left_in stages frames answer t
 
--- what is past a tuple is left in the frames, and where the tuple is an answer and wanted it stands before that
-pub record IsNarrowed (stages : List Stage) (width : ℕ) (frames : List Frame) (answer : List ℕ) (narrowed : Narrowed) : Type 0 where
+-- what is past a tuple is left in the frames, and where the tuple is an answer and wanted it stands before
+-- that
+pub record IsNarrowed (stages : List Stage) (width : ℕ) (frames : List Frame) (answer : List ℕ)
+    (narrowed : Narrowed) : Type 0 where
   pub depth : narrowed.depth ≤ length stages
   pub entered : (t : ℕ) → t < narrowed.depth → IsEntered stages frames answer t
   pub left_is : (inclusive : Bool) → filter (is_past inclusive (take width answer)) (answers stages [])
-      ≡ (let left = left_in stages frames answer narrowed.depth in cond (narrowed.found && inclusive) (take width answer ∷ left) left)
+      ≡ (let left = left_in stages frames answer narrowed.depth in cond (narrowed.found && inclusive)
+      (take width answer ∷ left) left)

@@ -7,4 +7,5 @@ use Rattle.pl_cursor.specs.Cursor.{CursorView}
 use Rattle.pl_cursor.specs.contracts.cursor.Cursor.{the_row}
 
 abbrev pub Rests : MutBor CursorView → (CursorView → Type 0) → Fml
-Rests cursor P = let row = the_row (record { mir = named 1; lft = [] }) in follows_so row row cursor.ghost_name none (λ _ _. Unit {0}) P
+Rests cursor P = let row = the_row (record { mir = named 1; lft = [] }) in
+    follows_so row row cursor.ghost_name none (λ _ _. Unit {0}) P

@@ -25,7 +25,9 @@ stage_of classes from node = record {
 abbrev pub stages_from : List ℕ → ℕ → List Node → List Stage
 stages_from classes from [] = []
 stages_from classes from (node ∷ nodes) =
-    cond (brings node) (stage_of classes from node ∷ stages_from classes (from + length (new_classes node)) nodes) (stages_from classes from nodes)
+    cond (brings node)
+    (stage_of classes from node ∷ stages_from classes (from + length (new_classes node)) nodes)
+    (stages_from classes from nodes)
 
 -- the stages of a join
 unfoldable pub stages_of : ReducedJoin → List Stage

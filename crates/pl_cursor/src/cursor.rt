@@ -1,6 +1,7 @@
 //! A cursor: what callers make and ask.
 
-ghost use Rattle.std.specs.Prelude.{◌≡◌, ◌+◌, ◌*◌, ◌≤◌, ◌∷◌, [], ℕ, List, length, map, true, Some, None, option_map, slice_get, IfSome, IfNone};
+ghost use Rattle.std.specs.Prelude.{◌≡◌, ◌+◌, ◌*◌, ◌≤◌, ◌∷◌, [], ℕ, List, length, map, true, Some, None};
+ghost use Rattle.std.specs.Prelude.{option_map, slice_get, IfSome, IfNone};
 ghost use Rattle.pl_join.specs.Relation.{Assignment};
 ghost use Rattle.pl_reduce.specs.Reduced.{JoinHolds};
 ghost use Rattle.pl_cursor.specs.Cursor.{CursorView, AreAnswersPast, IsStep, StepsOn, is_past};
@@ -16,17 +17,18 @@ use pl_steps::Steps;
 use std::marker::Model;
 use std::sync::ledger::Ledger;
 
-/// The answers of a reduced join, one by one in ascending order. An answer has one value for each class, in class order.
+/// The answers of a reduced join, one by one in ascending order. An answer has one value for each class, in
+/// class order.
 ///
-/// A cursor takes no memory: it keeps, for each node that brings classes, which rows of the node's table are left. In a
-/// full reduction each choice of rows goes on to an answer (Yannakakis 1981). So no answer takes more probes than twice as
-/// many as there are classes, however many rows the tables have: the join is enumerated with constant delay (Bagan, Durand
-/// and Grandjean 2007).
+/// A cursor takes no memory: it keeps, for each node that brings classes, which rows of the node's table are
+/// left. In a full reduction each choice of rows goes on to an answer (Yannakakis 1981). So no answer takes
+/// more probes than twice as many as there are classes, however many rows the tables have: the join is
+/// enumerated with constant delay (Bagan, Durand and Grandjean 2007).
 ///
 /// Contracts see it as the join, the answers that are left, and the one last given (`CursorView`).
 #[derive(Drop)]
 pub struct Cursor<'r> {
-    reduced: &'r Reduced,
+    reduced: &'r Reduced<'r>,
     layout: Layout,
     position: Position,
     ready: bool,
@@ -53,7 +55,7 @@ impl<'r> Model for Cursor<'r> {
 
 impl<'r> Cursor<'r> {
     /// Before the first answer. It takes no probe.
-    pub fn start(reduced: &'r Reduced) -> Cursor<'r>
+    pub fn start(reduced: &'r Reduced<'r>) -> Cursor<'r>
         ensures join { result.join ≡ reduced.now }
         ensures answers { AreAnswersPast reduced.now (λ _. true) result.left }
         ensures place { result.place ≡ None }
@@ -90,12 +92,12 @@ impl<'r> Cursor<'r> {
         }
     }
 
-    /// Before the first answer that is above `past`, or with `inclusive` at or above it. `past` has one value for each class, and
-    /// need not be an answer.
+    /// Before the first answer that is above `past`, or with `inclusive` at or above it. `past` has one value
+    /// for each class, and need not be an answer.
     ///
     /// It takes at most three probes for each class, and none where the join is empty.
     pub fn seek<L: Ledger>(
-        reduced: &'r Reduced,
+        reduced: &'r Reduced<'r>,
         past: &[u32],
         inclusive: bool,
         steps: &mut Steps<L>,
@@ -139,8 +141,8 @@ impl<'r> Cursor<'r> {
 
     /// The next answer, or None where none is left; then nothing changes.
     ///
-    /// It takes at most two probes for each class, and none where it answers None. Mostly it takes one: the next row of the
-    /// last stage.
+    /// It takes at most two probes for each class, and none where it answers None. Mostly it takes one: the
+    /// next row of the last stage.
     pub fn next<L: Ledger>(&mut self, steps: &mut Steps<L>) -> Option<&[u32]>
         ensures* after { sem 𝓛 (Rests self.entry (λ new. IsStep self.old (option_map (λ row. row.now) result) new)) }
         ensures none { IfNone result (self.old.left ≡ []) }

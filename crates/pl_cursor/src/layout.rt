@@ -1,6 +1,7 @@
 //! What a cursor knows of its join from the start: which nodes bring classes, and where the classes stand.
 
-ghost use Rattle.std.specs.Prelude.{◌≡◌, ◌+◌, ◌<◌, ◌≤◌, ◌∷◌, ℕ, List, drop, length, All, Contains, slice_index};
+ghost use Rattle.std.specs.Prelude.{◌≡◌, ◌+◌, ◌<◌, ◌≤◌, ◌∷◌, ℕ, List, drop, length, All, Contains};
+ghost use Rattle.std.specs.Prelude.{slice_index};
 ghost use Rattle.pl_join.specs.Relation.{AreDistinct};
 ghost use Rattle.pl_reduce.specs.Nodes.{Node, node_at};
 ghost use Rattle.pl_reduce.specs.Reduced.{IsReduced};
@@ -36,7 +37,7 @@ pub struct Layout {
 
 impl Layout {
     /// The layout of a join. It takes no probe.
-    pub fn of(reduced: &Reduced) -> Layout
+    pub fn of(reduced: &Reduced<'_>) -> Layout
         ensures { IsLayout reduced.now result }
     {
         let mut stops = [Stop {
@@ -71,12 +72,13 @@ fn lay_places(places: &mut [u8], classes: &[u32])
 }
 
 /// Writes the stops of the walk, and says how many they are.
-fn lay_stops(reduced: &Reduced, stops: &mut [Stop]) -> usize
+fn lay_stops(reduced: &Reduced<'_>, stops: &mut [Stop]) -> usize
     requires { length stops.old ≡ 64 }
     ensures reduced { IsReduced reduced.now }
     ensures count { result ≡ length (stages_of reduced.now) }
     ensures few { result ≤ length reduced.now.classes }
-    ensures stops { (t : ℕ) → t < result → IsStop reduced.now (stage_at (stages_of reduced.now) t) (stop_at stops.new t) }
+    ensures stops { (t : ℕ) → t < result → IsStop reduced.now (stage_at (stages_of reduced.now) t)
+        (stop_at stops.new t) }
 {
     let nodes = reduced.nodes();
     let mut count = 0;
@@ -105,7 +107,7 @@ pub struct Seen {
 }
 
 /// The node that is walked at a step.
-fn seen_at(reduced: &Reduced, nodes: usize, step: usize) -> Seen
+fn seen_at(reduced: &Reduced<'_>, nodes: usize, step: usize) -> Seen
     requires nodes { nodes ≡ length reduced.now.nodes }
     requires within { step < nodes }
     ensures { IsSeen reduced.now step result }
@@ -118,7 +120,8 @@ fn seen_at(reduced: &Reduced, nodes: usize, step: usize) -> Seen
     }
 }
 
-/// The number of the node that is walked at a step: the root first, then the others from the last to the first.
+/// The number of the node that is walked at a step: the root first, then the others from the last to the
+/// first.
 fn walked_at(nodes: usize, step: usize) -> usize
     requires { step < nodes }
     ensures within { result < nodes }

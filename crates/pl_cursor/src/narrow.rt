@@ -1,6 +1,7 @@
 //! The place from which the answers past a tuple stand.
 
-ghost use Rattle.std.specs.Prelude.{◌≡◌, ◌+◌, ◌*◌, ◌≤◌, ◌<◌, [], List, ℕ, length, take, slice_get, slice_range, Some, IsTrue};
+ghost use Rattle.std.specs.Prelude.{◌≡◌, ◌+◌, ◌*◌, ◌≤◌, ◌<◌, [], List, ℕ, length, take, slice_get};
+ghost use Rattle.std.specs.Prelude.{slice_range, Some, IsTrue};
 ghost use Rattle.std.specs.Bool.{OnTrue, OnFalse};
 ghost use Rattle.std.specs.List.{list_any};
 ghost use Rattle.pl_rows.specs.Rows.{begins_with, is_below};
@@ -15,19 +16,20 @@ use pl_rows::{Range, Table};
 use pl_steps::Steps;
 use std::sync::ledger::Ledger;
 
-/// Where the answers past a tuple stand: up to which depth the stages were gone into, and whether the tuple is an answer.
+/// Where the answers past a tuple stand: up to which depth the stages were gone into, and whether the tuple
+/// is an answer.
 #[derive(Clone, Copy)]
 pub struct Narrowed {
     pub depth: usize,
     pub found: bool,
 }
 
-/// Goes down the stages as long as one of their rows brings what the tuple has there, and leaves in their frames the rows
-/// behind it. The tuple stands in `answer`.
+/// Goes down the stages as long as one of their rows brings what the tuple has there, and leaves in their
+/// frames the rows behind it. The tuple stands in `answer`.
 ///
 /// It takes at most three probes for each stage.
 pub fn narrow<L: Ledger>(
-    reduced: &Reduced,
+    reduced: &Reduced<'_>,
     layout: &Layout,
     frames: &mut [Frame],
     answer: &[u32],
@@ -37,7 +39,8 @@ pub fn narrow<L: Ledger>(
     requires frames { length frames.old ≡ 64 }
     requires answer { length answer.now ≡ 64 }
     requires onward { NeverEnds (stages_of reduced.now) [] }
-    ensures narrowed { IsNarrowed (stages_of reduced.now) (length reduced.now.classes) frames.new answer.now result }
+    ensures narrowed { IsNarrowed (stages_of reduced.now) (length reduced.now.classes) frames.new answer.now
+        result }
     ensures cost { steps.new ≤ steps.old + 3 * layout.now.count }
     ensures rise { steps.old ≤ steps.new }
 {
@@ -64,10 +67,10 @@ pub struct Place {
     pub found: bool,
 }
 
-/// Finds the first of the rows that go on with the tuple that doesn't bring less than the tuple has there, in at most three
-/// probes.
+/// Finds the first of the rows that go on with the tuple that doesn't bring less than the tuple has there, in
+/// at most three probes.
 fn place_of<L: Ledger>(
-    reduced: &Reduced,
+    reduced: &Reduced<'_>,
     layout: &Layout,
     t: usize,
     answer: &[u32],
@@ -118,7 +121,8 @@ fn write_part(into: &mut [u32], at: usize, values: &[u32], from: usize, count: u
     write_at(into, at, &values[from..from + count]);
 }
 
-/// The place of the first row of a range whose first values are not below the prefix, or the end of the range, in one probe.
+/// The place of the first row of a range whose first values are not below the prefix, or the end of the
+/// range, in one probe.
 fn first_in<L: Ledger>(table: &Table, prefix: &[u32], range: Range, steps: &mut Steps<L>) -> usize
     requires short { length prefix.now ≤ table.now.arity }
     requires in_order { range.from ≤ range.to }
@@ -135,7 +139,8 @@ fn first_in<L: Ledger>(table: &Table, prefix: &[u32], range: Range, steps: &mut 
 fn has_at<L: Ledger>(table: &Table, row: &[u32], at: usize, to: usize, steps: &mut Steps<L>) -> bool
     requires { to ≤ length table.now.rows }
     ensures yes { OnTrue result ((at < to) × (slice_get table.now.rows at ≡ Some row.now)) }
-    ensures no { OnFalse result ((other : List ℕ) → at < to → slice_get table.now.rows at ≡ Some other → other ≡ row.now → ⊥) }
+    ensures no { OnFalse result ((other : List ℕ) → at < to → slice_get table.now.rows at ≡ Some other
+        → other ≡ row.now → ⊥) }
     ensures cost { steps.new ≤ steps.old + 1 }
     ensures rise { steps.old ≤ steps.new }
 {

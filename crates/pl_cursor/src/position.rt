@@ -1,12 +1,14 @@
 //! A place in the walk over the rows of a join, and the step from an answer to the next.
 
-ghost use Rattle.std.specs.Prelude.{◌≡◌, ◌+◌, ◌*◌, ◌-◌, ◌<◌, ◌≤◌, ℕ, true, false, List, [], ◌∷◌, length, take, drop, map, All, IsTrue, slice_index, slice_get, Some};
+ghost use Rattle.std.specs.Prelude.{◌≡◌, ◌+◌, ◌*◌, ◌-◌, ◌<◌, ◌≤◌, ℕ, true, false, List, [], ◌∷◌, length};
+ghost use Rattle.std.specs.Prelude.{take, drop, map, All, IsTrue, slice_index, slice_get, Some};
 ghost use Rattle.std.specs.List.{list_any};
 ghost use Rattle.std.specs.Bool.{OnTrue, OnFalse};
 ghost use Rattle.pl_rows.specs.Rows.{begins_with};
 ghost use Rattle.pl_cursor.specs.Answers.{Stage, frame_at, stage_at, key_of, left_in};
 ghost use Rattle.pl_cursor.specs.Stages.{stages_of};
-ghost use Rattle.pl_cursor.specs.Kept.{IsLayout, IsPosition, IsEntered, IsLookedUp, IsFirst, CanDescend, Descends, left_of, written};
+ghost use Rattle.pl_cursor.specs.Kept.{IsLayout, IsPosition, IsEntered, IsLookedUp, IsFirst, CanDescend};
+ghost use Rattle.pl_cursor.specs.Kept.{Descends, left_of, written};
 
 use crate::layout::{Layout, MOST_CLASSES};
 use pl_reduce::Reduced;
@@ -21,7 +23,8 @@ pub struct Frame {
     pub to: usize,
 }
 
-/// How far the walk over the rows came: the frames of the first `depth` stages, and the values that the rows gave.
+/// How far the walk over the rows came: the frames of the first `depth` stages, and the values that the rows
+/// gave.
 #[derive(Drop)]
 pub struct Position {
     pub frames: [Frame; MOST_CLASSES],
@@ -45,10 +48,11 @@ impl Position {
 
 /// Goes on to the next answer, which then stands in the position. Where none is left, nothing changes.
 ///
-/// It takes a probe for the row that comes next, and two for each stage behind that of the row. So mostly it takes one.
+/// It takes a probe for the row that comes next, and two for each stage behind that of the row. So mostly it
+/// takes one.
 #[inline]
 pub fn go_on<L: Ledger>(
-    reduced: &Reduced,
+    reduced: &Reduced<'_>,
     layout: &Layout,
     position: &mut Position,
     steps: &mut Steps<L>,
@@ -92,7 +96,8 @@ pub fn go_on<L: Ledger>(
 fn open_depth(frames: &[Frame], depth: usize) -> usize
     requires { depth ≤ length frames.now }
     ensures within { result ≤ depth }
-    ensures open { 0 < result → (frame_at frames.now (result - 1)).at < (frame_at frames.now (result - 1)).to }
+    ensures open { 0 < result → (frame_at frames.now (result - 1)).at
+        < (frame_at frames.now (result - 1)).to }
     ensures left { (stages : List Stage) (answer : List ℕ) →
         left_in stages frames.now answer depth ≡ left_in stages frames.now answer result }
 {
@@ -110,7 +115,7 @@ fn open_depth(frames: &[Frame], depth: usize) -> usize
 /// Takes the next row of a stage, in one probe.
 #[inline]
 fn take_row<L: Ledger>(
-    reduced: &Reduced,
+    reduced: &Reduced<'_>,
     layout: &Layout,
     frames: &mut [Frame],
     answer: &mut [u32],
@@ -137,10 +142,10 @@ fn take_row<L: Ledger>(
     };
 }
 
-/// Goes down from a stage to the last one, in each at the first row that goes on with the values above it. It takes two
-/// probes for each stage.
+/// Goes down from a stage to the last one, in each at the first row that goes on with the values above it. It
+/// takes two probes for each stage.
 fn descend<L: Ledger>(
-    reduced: &Reduced,
+    reduced: &Reduced<'_>,
     layout: &Layout,
     frames: &mut [Frame],
     answer: &mut [u32],
@@ -154,7 +159,8 @@ fn descend<L: Ledger>(
     requires descends { CanDescend (stages_of reduced.now) (length reduced.now.classes) frames.old answer.old depth }
     ensures descends { (left : List (List ℕ)) →
         Descends (stages_of reduced.now) (length reduced.now.classes) left frames.old answer.old depth →
-        Descends (stages_of reduced.now) (length reduced.now.classes) left frames.new answer.new layout.now.count }
+        Descends (stages_of reduced.now) (length reduced.now.classes) left frames.new answer.new
+        layout.now.count }
     ensures cost { steps.new ≡ steps.old + 2 * (layout.now.count - depth) }
 {
     for t in depth..layout.count {
@@ -165,7 +171,7 @@ fn descend<L: Ledger>(
 
 /// Takes the first row of a stage that goes on with the answer, in two probes. There is one.
 fn enter<L: Ledger>(
-    reduced: &Reduced,
+    reduced: &Reduced<'_>,
     layout: &Layout,
     t: usize,
     answer: &mut [u32],
@@ -192,7 +198,7 @@ fn enter<L: Ledger>(
 
 /// Looks up the rows of a stage that go on with the answer, in one probe. Their key is written.
 pub fn look_up<L: Ledger>(
-    reduced: &Reduced,
+    reduced: &Reduced<'_>,
     layout: &Layout,
     t: usize,
     key: &mut [u32],
@@ -217,7 +223,8 @@ fn write_key(key: &mut [u32], classes: &[u32], places: &[u8], answer: &[u32])
     requires len { length classes.now ≤ length key.old }
     requires below { All (λ c. c < length places.now) classes.now }
     requires within { All (λ c. slice_index places.now c < length answer.now) classes.now }
-    ensures { take (length classes.now) key.new ≡ map (λ c. slice_index answer.now (slice_index places.now c)) classes.now }
+    ensures { take (length classes.now) key.new ≡ map (λ c. slice_index answer.now (slice_index places.now c))
+        classes.now }
 {
     for (i, class) in classes.iter().enumerate() {
         key[i] = answer[places[*class as usize] as usize];

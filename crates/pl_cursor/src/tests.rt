@@ -53,7 +53,8 @@ struct Rows {
     flat: &'static [u32],
 }
 
-/// Edges, a table for each over the edge's classes by rising number, and the class order and the answers of their join.
+/// Edges, a table for each over the edge's classes by rising number, and the class order and the answers of
+/// their join.
 struct Case {
     edges: &'static [u64],
     tables: &'static [Rows],
@@ -205,7 +206,7 @@ fn reduced_of<L: Ledger>(
     alloc: Global,
     case: &Case,
     steps: &mut Steps<L>,
-) -> Result<Option<Reduced>, AllocError> {
+) -> Result<Option<Reduced<'static>>, AllocError> {
     if case.edges.len() > 64 {
         return Ok(None);
     }
@@ -246,7 +247,7 @@ fn gives<L: Ledger>(cursor: &mut Cursor<'_>, answers: &[&[u32]], steps: &mut Ste
 
 /// Whether a search gives the answers past the tuple.
 fn gives_past<L: Ledger>(
-    reduced: &Reduced,
+    reduced: &Reduced<'_>,
     answers: &[&[u32]],
     past: &[u32],
     inclusive: bool,
@@ -275,17 +276,22 @@ fn is_met<L: Ledger>(alloc: Global, case: &Case, blank: Blank) -> Result<bool, A
     let Some(reduced) = reduced_of(alloc, case, &mut steps)? else {
         return Ok(false);
     };
+    Ok(gives_all(&reduced, case, &mut steps))
+}
+
+/// Whether the cursors over the join give the case's answers.
+fn gives_all<L: Ledger>(reduced: &Reduced<'_>, case: &Case, steps: &mut Steps<L>) -> bool {
     if reduced.classes() != case.classes {
-        return Ok(false);
+        return false;
     }
     for past in case.answers {
-        if !gives_past(&reduced, case.answers, *past, false, &mut steps)
-            || !gives_past(&reduced, case.answers, *past, true, &mut steps)
+        if !gives_past(reduced, case.answers, *past, false, steps)
+            || !gives_past(reduced, case.answers, *past, true, steps)
         {
-            return Ok(false);
+            return false;
         }
     }
-    Ok(gives(&mut Cursor::start(&reduced), case.answers, &mut steps))
+    gives(&mut Cursor::start(reduced), case.answers, steps)
 }
 
 /// Whether a search gives the answers past each tuple of three objects.
@@ -298,15 +304,19 @@ fn is_met_past_each<L: Ledger>(alloc: Global, case: &Case, blank: Blank) -> Resu
     let Some(reduced) = reduced_of(alloc, case, &mut steps)? else {
         return Ok(false);
     };
+    Ok(gives_past_each(&reduced, case, &mut steps))
+}
+
+fn gives_past_each<L: Ledger>(reduced: &Reduced<'_>, case: &Case, steps: &mut Steps<L>) -> bool {
     for n in 0..27 {
         let past = [n / 9, n / 3 % 3, n % 3];
-        if !gives_past(&reduced, case.answers, &past, false, &mut steps)
-            || !gives_past(&reduced, case.answers, &past, true, &mut steps)
+        if !gives_past(reduced, case.answers, &past, false, steps)
+            || !gives_past(reduced, case.answers, &past, true, steps)
         {
-            return Ok(false);
+            return false;
         }
     }
-    Ok(true)
+    true
 }
 
 /// The pairs of numbers below 100.
@@ -341,7 +351,8 @@ fn pairs_of<L: Ledger>(
     Ok(Some(select(alloc, &table, &slots, steps)?))
 }
 
-/// How many answers the join of two relations with all pairs has, over three classes. The cursor is given no allocator.
+/// How many answers the join of two relations with all pairs has, over three classes. The cursor is given no
+/// allocator.
 fn count_of_pairs<L: Ledger>(alloc: Global, blank: Blank) -> Result<Option<u32>, AllocError>
     requires name { blank.name ≡ L.name }
     requires parts { blank.parts ≡ L.parts }
@@ -361,15 +372,20 @@ fn count_of_pairs<L: Ledger>(alloc: Global, blank: Blank) -> Result<Option<u32>,
         return Ok(None);
     }
     let reduced = Reduced::reduce(alloc, right, rest, &plan, &mut steps)?;
-    let mut cursor = Cursor::start(&reduced);
+    Ok(count_of(&reduced, &mut steps))
+}
+
+/// How many answers the cursor gives, if they are no more than two million.
+fn count_of<L: Ledger>(reduced: &Reduced<'_>, steps: &mut Steps<L>) -> Option<u32> {
+    let mut cursor = Cursor::start(reduced);
     let mut count: u32 = 0;
     for _ in 0..2_000_000 {
-        if cursor.next(&mut steps).is_none() {
-            return Ok(Some(count));
+        if cursor.next(steps).is_none() {
+            return Some(count);
         }
         count = count.wrapping_add(1);
     }
-    Ok(None)
+    None
 }
 
 #[test]
