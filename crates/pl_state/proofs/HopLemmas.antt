@@ -1,5 +1,6 @@
 -- The task of the tests is well-formed.
-use Rattle.std.proofs.Common.{◌≡◌, ℕ, ◌<◌, ◌≤◌, ◌^◌, zero, suc, not, List, [], ◌∷◌, length, get_or, refl, sym, ap, ◌∙◌, subst, arith, Some, slice_get, All}
+use Rattle.std.proofs.Common.{◌≡◌, ℕ, ◌<◌, ◌≤◌, ◌^◌, zero, suc, not, List, [], ◌∷◌, length, get_or, refl, sym}
+use Rattle.std.proofs.Common.{ap, ◌∙◌, subst, arith, Some, slice_get, All}
 use Rattle.std.proofs.lemmas.List.Elements.{All-nil, All-cons, All-same, All-weaker}
 use Rattle.std.proofs.lemmas.Option.{slice_get_read, same_Some}
 use Rattle.pl_task.specs.declared.data.Atom.{Atom}
@@ -13,9 +14,11 @@ use Rattle.pl_task.specs.declared.data.Term.{Term}
 use Rattle.pl_task.specs.declared.data.Term.TheVariants as term
 use Rattle.pl_task.specs.declared.data.TypeDef.{TypeDef}
 use Rattle.pl_task.specs.declared.task.Task.{Task}
-use Rattle.pl_task.specs.WellFormed.{AreTypes, AreObjects, ArePredicates, AreSchemas, AreInitial, IsGoalOf, IsSchemaOf, IsLiteralOf, IsLiftedOf, IsTermOf, IsAtomOf, is_fluent}
+use Rattle.pl_task.specs.WellFormed.{AreTypes, AreObjects, ArePredicates, AreSchemas, AreInitial, IsGoalOf}
+use Rattle.pl_task.specs.WellFormed.{IsSchemaOf, IsLiteralOf, IsLiftedOf, IsTermOf, IsAtomOf, is_fluent}
 use Rattle.pl_state.specs.Layout.{atom_of}
-use Rattle.pl_state.specs.Hops.{at_place, done, at_definition, link_definition, done_definition, definitions, place, hop, finish, spread, IsHopGoal}
+use Rattle.pl_state.specs.Hops.{at_place, done, at_definition, link_definition, done_definition, definitions}
+use Rattle.pl_state.specs.Hops.{place, hop, finish, spread, IsHopGoal}
 
 one : (X : Type 0) (P : X → Type 0) (x : X) → P x → All P (x ∷ [])
 one X P x h = All-cons P x [] h (All-nil P)
@@ -29,7 +32,8 @@ parameter_is objects parameters k h = record {
   object = λ n e. absurd (cc);
 }
 
-at_is : (objects parameters k : ℕ) → k < parameters → IsLiftedOf definitions objects parameters (at_place (term.Parameter k))
+at_is : (objects parameters k : ℕ) → k < parameters →
+    IsLiftedOf definitions objects parameters (at_place (term.Parameter k))
 at_is objects parameters k h = record {
   predicate = omega arith;
   arity = λ d e. ap (λ (x : PredicateDef). x.arity) (same_Some at_definition d e);
@@ -46,34 +50,45 @@ done_is objects parameters = record {
 place_is : (types : List TypeDef) → 0 < length types → All (λ t. t < length types) place.types
 place_is types h = one ℕ (λ t. t < length types) 0 h
 
-hop_is : (types : List TypeDef) (objects : List ObjectDef) → 0 < length types → IsSchemaOf types objects definitions hop
+hop_is : (types : List TypeDef) (objects : List ObjectDef) → 0 < length types →
+    IsSchemaOf types objects definitions hop
 hop_is types objects h = record {
   few_parameters = omega arith;
   few_literals = omega arith;
-  typed = two Parameter (λ (p : Parameter). All (λ t. t < length types) p.types) place place (place_is types h) (place_is types h);
+  typed = two Parameter (λ (p : Parameter). All (λ t. t < length types) p.types) place place
+      (place_is types h) (place_is types h);
   literals = All-nil (IsLiteralOf definitions (length objects) 2);
-  deletes = one Lifted (IsLiftedOf definitions (length objects) 2) (at_place (term.Parameter 0)) (at_is (length objects) 2 0 (omega arith));
-  adds = one Lifted (IsLiftedOf definitions (length objects) 2) (at_place (term.Parameter 1)) (at_is (length objects) 2 1 (omega arith));
+  deletes = one Lifted (IsLiftedOf definitions (length objects) 2) (at_place (term.Parameter 0))
+      (at_is (length objects) 2 0 (omega arith));
+  adds = one Lifted (IsLiftedOf definitions (length objects) 2) (at_place (term.Parameter 1))
+      (at_is (length objects) 2 1 (omega arith));
 }
 
-finish_is : (types : List TypeDef) (objects : List ObjectDef) → 0 < length types → IsSchemaOf types objects definitions finish
+finish_is : (types : List TypeDef) (objects : List ObjectDef) → 0 < length types →
+    IsSchemaOf types objects definitions finish
 finish_is types objects h = record {
   few_parameters = omega arith;
   few_literals = omega arith;
   typed = one Parameter (λ (p : Parameter). All (λ t. t < length types) p.types) place (place_is types h);
   literals = All-nil (IsLiteralOf definitions (length objects) 1);
-  deletes = one Lifted (IsLiftedOf definitions (length objects) 1) (at_place (term.Parameter 0)) (at_is (length objects) 1 0 (omega arith));
+  deletes = one Lifted (IsLiftedOf definitions (length objects) 1) (at_place (term.Parameter 0))
+      (at_is (length objects) 1 0 (omega arith));
   adds = one Lifted (IsLiftedOf definitions (length objects) 1) done (done_is (length objects) 1);
 }
 
-spread_is : (types : List TypeDef) (objects : List ObjectDef) → 0 < length types → IsSchemaOf types objects definitions spread
+spread_is : (types : List TypeDef) (objects : List ObjectDef) → 0 < length types →
+    IsSchemaOf types objects definitions spread
 spread_is types objects h = record {
   few_parameters = omega arith;
   few_literals = omega arith;
-  typed = two Parameter (λ (p : Parameter). All (λ t. t < length types) p.types) place place (place_is types h) (place_is types h);
+  typed = two Parameter (λ (p : Parameter). All (λ t. t < length types) p.types) place place
+      (place_is types h) (place_is types h);
   literals = All-nil (IsLiteralOf definitions (length objects) 2);
-  deletes = two Lifted (IsLiftedOf definitions (length objects) 2) done (at_place (term.Parameter 0)) (done_is (length objects) 2) (at_is (length objects) 2 0 (omega arith));
-  adds = two Lifted (IsLiftedOf definitions (length objects) 2) (at_place (term.Parameter 1)) (at_place (term.Parameter 0)) (at_is (length objects) 2 1 (omega arith)) (at_is (length objects) 2 0 (omega arith));
+  deletes = two Lifted (IsLiftedOf definitions (length objects) 2) done (at_place (term.Parameter 0))
+      (done_is (length objects) 2) (at_is (length objects) 2 0 (omega arith));
+  adds = two Lifted (IsLiftedOf definitions (length objects) 2) (at_place (term.Parameter 1))
+      (at_place (term.Parameter 0)) (at_is (length objects) 2 1 (omega arith))
+      (at_is (length objects) 2 0 (omega arith));
 }
 
 pub types_well : (types : List TypeDef) (t : TypeDef) → types ≡ t ∷ [] → t.parents ≡ [] → AreTypes types
@@ -81,17 +96,22 @@ types_well types t are none = record {
   some = omega (arith, ap length are);
   many = omega (arith, ap length are);
   parents = All-same (λ (d : TypeDef). All (λ p. p < length types) d.parents) types (t ∷ []) are
-      (one TypeDef (λ (d : TypeDef). All (λ p. p < length types) d.parents) t (All-same (λ p. p < length types) t.parents [] none (All-nil (λ p. p < length types))));
+      (one TypeDef (λ (d : TypeDef). All (λ p. p < length types) d.parents) t
+      (All-same (λ p. p < length types) t.parents [] none (All-nil (λ p. p < length types))));
 }
 
-pub objects_well : (types : List TypeDef) (objects : List ObjectDef) → length objects < 2 ^ 32 → All (λ (o : ObjectDef). o.types ≡ []) objects → AreObjects types objects
+pub objects_well : (types : List TypeDef) (objects : List ObjectDef) → length objects < 2 ^ 32 →
+    All (λ (o : ObjectDef). o.types ≡ []) objects → AreObjects types objects
 objects_well types objects few plain = record {
   many = few;
-  typed = All-weaker (λ (o : ObjectDef). o.types ≡ []) (λ (o : ObjectDef). All (λ t. t < length types) o.types)
-      (λ o none. All-same (λ t. t < length types) o.types [] none (All-nil (λ t. t < length types))) objects plain;
+  typed = All-weaker (λ (o : ObjectDef). o.types ≡ [])
+      (λ (o : ObjectDef). All (λ t. t < length types) o.types)
+      (λ o none. All-same (λ t. t < length types) o.types [] none (All-nil (λ t. t < length types))) objects
+      plain;
 }
 
-static : (p : ℕ) (d : PredicateDef) → slice_get definitions p ≡ Some d → d.is_static ≡ not (is_fluent (hop ∷ finish ∷ spread ∷ []) p)
+static : (p : ℕ) (d : PredicateDef) → slice_get definitions p ≡ Some d →
+    d.is_static ≡ not (is_fluent (hop ∷ finish ∷ spread ∷ []) p)
 static zero d e = ap (λ (x : PredicateDef). x.is_static) (sym (same_Some at_definition d e))
 static (suc zero) d e = ap (λ (x : PredicateDef). x.is_static) (sym (same_Some link_definition d e))
 static (suc (suc zero)) d e = ap (λ (x : PredicateDef). x.is_static) (sym (same_Some done_definition d e))
@@ -100,53 +120,71 @@ static (suc (suc (suc p))) d e = absurd (cc)
 predicates_literal : ArePredicates (hop ∷ finish ∷ spread ∷ []) definitions
 predicates_literal = record {
   many = omega arith;
-  narrow = All-cons (λ (d : PredicateDef). d.arity ≤ 64) at_definition (link_definition ∷ done_definition ∷ []) (omega arith)
-      (two PredicateDef (λ (d : PredicateDef). d.arity ≤ 64) link_definition done_definition (omega arith) (omega arith));
+  narrow = All-cons (λ (d : PredicateDef). d.arity ≤ 64) at_definition
+      (link_definition ∷ done_definition ∷ []) (omega arith)
+      (two PredicateDef (λ (d : PredicateDef). d.arity ≤ 64) link_definition done_definition (omega arith)
+      (omega arith));
   static = static;
 }
 
-pub predicates_well : (schemas : List Schema) (predicates : List PredicateDef) → schemas ≡ hop ∷ finish ∷ spread ∷ [] → predicates ≡ definitions → ArePredicates schemas predicates
+pub predicates_well : (schemas : List Schema) (predicates : List PredicateDef) →
+    schemas ≡ hop ∷ finish ∷ spread ∷ [] → predicates ≡ definitions → ArePredicates schemas predicates
 predicates_well schemas predicates ss ps = rw (ss, ps) predicates_literal
 
-pub schemas_well : (types : List TypeDef) (objects : List ObjectDef) (predicates : List PredicateDef) (schemas : List Schema) → 0 < length types →
-    schemas ≡ hop ∷ finish ∷ spread ∷ [] → predicates ≡ definitions → AreSchemas types objects predicates schemas
+pub schemas_well : (types : List TypeDef) (objects : List ObjectDef) (predicates : List PredicateDef)
+    (schemas : List Schema) → 0 < length types →
+    schemas ≡ hop ∷ finish ∷ spread ∷ [] → predicates ≡ definitions →
+    AreSchemas types objects predicates schemas
 schemas_well types objects predicates schemas some ss ps = record {
   many = omega (arith, ap length ss);
-  each = rw (ss, ps) (All-cons (IsSchemaOf types objects definitions) hop (finish ∷ spread ∷ []) (hop_is types objects some)
-      (two Schema (IsSchemaOf types objects definitions) finish spread (finish_is types objects some) (spread_is types objects some)));
+  each = rw (ss, ps) (All-cons (IsSchemaOf types objects definitions) hop (finish ∷ spread ∷ [])
+      (hop_is types objects some)
+      (two Schema (IsSchemaOf types objects definitions) finish spread (finish_is types objects some)
+      (spread_is types objects some)));
 }
 
 -- an atom that the code tests
-pub atom_well : (task : Task) (definitions' : List PredicateDef) (p : ℕ) (row : List ℕ) (d : PredicateDef) → definitions' ≡ task.predicates → p < length definitions' → d ≡ get_or definitions' p d → length row ≡ d.arity →
+pub atom_well : (task : Task) (definitions' : List PredicateDef) (p : ℕ) (row : List ℕ) (d : PredicateDef) →
+    definitions' ≡ task.predicates → p < length definitions' → d ≡ get_or definitions' p d →
+    length row ≡ d.arity →
     All (λ o. o < length task.objects) row → IsAtomOf task.objects task.predicates (atom_of p row)
 atom_well task definitions' p row d are within reads wide inside = record {
   predicate = subst (λ (l : List PredicateDef). p < length l) are within;
-  arity = λ e found. wide ∙ ap (λ (x : PredicateDef). x.arity) (same_Some d e (sym (subst (λ (l : List PredicateDef). slice_get l p ≡ Some d) are (slice_get_read definitions' (length definitions') p d refl within reads)) ∙ found));
+  arity = λ e found. wide ∙
+      ap (λ (x : PredicateDef). x.arity)
+      (same_Some d e (sym (subst (λ (l : List PredicateDef). slice_get l p ≡ Some d) are
+      (slice_get_read definitions' (length definitions') p d refl within reads)) ∙ found));
   within = inside;
 }
 
 -- the initial atoms and the goal
-pub init_well : (objects : List ObjectDef) (predicates : List PredicateDef) (init : List Atom) → 2 ≤ length objects → predicates ≡ definitions → init ≡ atom_of 1 (0 ∷ 1 ∷ []) ∷ [] → AreInitial objects predicates init
+pub init_well : (objects : List ObjectDef) (predicates : List PredicateDef) (init : List Atom) →
+    2 ≤ length objects → predicates ≡ definitions → init ≡ atom_of 1 (0 ∷ 1 ∷ []) ∷ [] →
+    AreInitial objects predicates init
 init_well objects predicates init some ps is = record {
-  each = rw (is, ps) (one Atom (IsAtomOf objects definitions) (atom_of 1 (0 ∷ 1 ∷ [])) (link_is objects 0 1 (omega arith) (omega arith)));
+  each = rw (is, ps) (one Atom (IsAtomOf objects definitions) (atom_of 1 (0 ∷ 1 ∷ []))
+      (link_is objects 0 1 (omega arith) (omega arith)));
   distinct = rw is (λ i j d l m. absurd (omega arith));
 }
   where
-    link_is : (objects : List ObjectDef) (a b : ℕ) → a < length objects → b < length objects → IsAtomOf objects definitions (atom_of 1 (a ∷ b ∷ []))
+    link_is : (objects : List ObjectDef) (a b : ℕ) → a < length objects → b < length objects →
+        IsAtomOf objects definitions (atom_of 1 (a ∷ b ∷ []))
     link_is objects a b h k = record {
       predicate = omega arith;
       arity = λ d e. ap (λ (x : PredicateDef). x.arity) (same_Some link_definition d e);
       within = two ℕ (λ o. o < length objects) a b h k;
     }
 
-at_atom : (objects : List ObjectDef) (n : ℕ) → n < length objects → IsAtomOf objects definitions (atom_of 0 (n ∷ []))
+at_atom : (objects : List ObjectDef) (n : ℕ) → n < length objects →
+    IsAtomOf objects definitions (atom_of 0 (n ∷ []))
 at_atom objects n h = record {
   predicate = omega arith;
   arity = λ d e. ap (λ (x : PredicateDef). x.arity) (same_Some at_definition d e);
   within = one ℕ (λ o. o < length objects) n h;
 }
 
-link_atom : (objects : List ObjectDef) (a b : ℕ) → a < length objects → b < length objects → IsAtomOf objects definitions (atom_of 1 (a ∷ b ∷ []))
+link_atom : (objects : List ObjectDef) (a b : ℕ) → a < length objects → b < length objects →
+    IsAtomOf objects definitions (atom_of 1 (a ∷ b ∷ []))
 link_atom objects a b h k = record {
   predicate = omega arith;
   arity = λ d e. ap (λ (x : PredicateDef). x.arity) (same_Some link_definition d e);
@@ -160,15 +198,22 @@ done_atom objects = record {
   within = All-nil (λ o. o < length objects);
 }
 
-pub goal_well : (objects : List ObjectDef) (predicates : List PredicateDef) (goal : List GoalLiteral) → 2 ≤ length objects → predicates ≡ definitions → IsHopGoal goal → IsGoalOf objects predicates goal
+pub goal_well : (objects : List ObjectDef) (predicates : List PredicateDef) (goal : List GoalLiteral) →
+    2 ≤ length objects → predicates ≡ definitions → IsHopGoal goal → IsGoalOf objects predicates goal
 goal_well objects predicates goal some ps h = record {
   many = omega (arith, ap length h.are);
   each = rw (h.are, ps) (
-      All-cons P h.once (h.twice ∷ h.all_done ∷ h.linked ∷ h.not_linked ∷ []) (subst (IsAtomOf objects definitions) (sym h.once_is) (at_atom objects 1 (omega arith)))
-      (All-cons P h.twice (h.all_done ∷ h.linked ∷ h.not_linked ∷ []) (subst (IsAtomOf objects definitions) (sym h.twice_is) (at_atom objects 1 (omega arith)))
-      (All-cons P h.all_done (h.linked ∷ h.not_linked ∷ []) (subst (IsAtomOf objects definitions) (sym h.done_is) (done_atom objects))
-      (two GoalLiteral P h.linked h.not_linked (subst (IsAtomOf objects definitions) (sym h.linked_is) (link_atom objects 0 1 (omega arith) (omega arith)))
-      (subst (IsAtomOf objects definitions) (sym h.not_linked_is) (link_atom objects 1 0 (omega arith) (omega arith)))))));
+      All-cons P h.once (h.twice ∷ h.all_done ∷ h.linked ∷ h.not_linked ∷ [])
+      (subst (IsAtomOf objects definitions) (sym h.once_is) (at_atom objects 1 (omega arith)))
+      (All-cons P h.twice (h.all_done ∷ h.linked ∷ h.not_linked ∷ [])
+      (subst (IsAtomOf objects definitions) (sym h.twice_is) (at_atom objects 1 (omega arith)))
+      (All-cons P h.all_done (h.linked ∷ h.not_linked ∷ [])
+      (subst (IsAtomOf objects definitions) (sym h.done_is) (done_atom objects))
+      (two GoalLiteral P h.linked h.not_linked
+      (subst (IsAtomOf objects definitions) (sym h.linked_is)
+      (link_atom objects 0 1 (omega arith) (omega arith)))
+      (subst (IsAtomOf objects definitions) (sym h.not_linked_is)
+      (link_atom objects 1 0 (omega arith) (omega arith)))))));
 }
   where
     P : GoalLiteral → Type 0

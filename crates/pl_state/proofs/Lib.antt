@@ -14,6 +14,8 @@ pub mod Applyings
 pub mod Tablings
 -- what a state feeds a hasher
 pub mod Feedings
+-- words compared group by group
+pub mod Comparings
 -- the tables of the static atoms
 pub mod StaticTables
 -- the goal with its static part decided

@@ -1,5 +1,7 @@
 -- What it is to append the part of a predicate, and which rows a step's effects name.
-use Rattle.std.specs.Prelude.{◌≡◌, ℕ, ◌<◌, ◌≤◌, ◌+◌, ◌-◌, ◌⊎◌, Bool, true, false, List, [], ◌∷◌, ◌++◌, length, map, take, drop, All, Contains, Option, Some, None, MatchOption, slice_get, slice_index_or, bytes_eq, if◌then◌else◌}
+use Rattle.std.specs.Prelude.{◌≡◌, ℕ, ◌<◌, ◌≤◌, ◌+◌, ◌-◌, ◌⊎◌, Bool, true, false, List, [], ◌∷◌, ◌++◌, length}
+use Rattle.std.specs.Prelude.{map, take, drop, All, Contains, Option, Some, None, MatchOption, slice_get}
+use Rattle.std.specs.Prelude.{slice_index_or, bytes_eq, if◌then◌else◌}
 use Rattle.std.specs.List.{flat_map, list_any}
 use denote.Ref.{Bor}
 use Rattle.pl_rows.specs.Rows.{IsAscending}
@@ -52,11 +54,13 @@ is_done args None row = false
 is_done args (Some last) row = comes_before true (row_under args last.now) row
 
 -- of the named rows that are not done, the effect's is the least
-pub record IsNextNamed (args : List ℕ) (predicate : ℕ) (done : List ℕ → Bool) (effects : List Lifted) (e : Lifted) : Type 0 where
+pub record IsNextNamed (args : List ℕ) (predicate : ℕ) (done : List ℕ → Bool) (effects : List Lifted)
+    (e : Lifted) : Type 0 where
   pub held : Contains effects e
   pub of_predicate : e.predicate ≡ predicate
   pub past : done (row_under args e) ≡ false
-  pub least : (row : List ℕ) → is_named args predicate effects row ≡ true → done row ≡ false → comes_before false (row_under args e) row ≡ false
+  pub least : (row : List ℕ) → is_named args predicate effects row ≡ true → done row ≡ false →
+      comes_before false (row_under args e) row ≡ false
 
 -- the effect with the next named row, or none where all are done
 abbrev pub IsNext : List ℕ → ℕ → (List ℕ → Bool) → List Lifted → Option (Bor Lifted) → Type 0
@@ -67,16 +71,19 @@ IsNext args predicate done effects next =
 -- whether the row is among these after the deletes and adds
 abbrev pub is_row_after : List ℕ → ℕ → List Lifted → List Lifted → List (List ℕ) → List ℕ → Bool
 is_row_after args predicate deletes adds rows row =
-    changed (λ a. list_any (bytes_eq a.objects) rows) (map (atom_at args) deletes) (map (atom_at args) adds) (atom_of predicate row)
+    changed (λ a. list_any (bytes_eq a.objects) rows) (map (atom_at args) deletes) (map (atom_at args) adds)
+    (atom_of predicate row)
 
 -- the new words are the old ones and the rows after the deletes and adds, ascending; so many
-pub record AppendsRows (args : List ℕ) (predicate arity : ℕ) (deletes adds : List Lifted) (rows : List (List ℕ)) (count : ℕ) (old new : List ℕ) : Type 0 where
+pub record AppendsRows (args : List ℕ) (predicate arity : ℕ) (deletes adds : List Lifted)
+    (rows : List (List ℕ)) (count : ℕ) (old new : List ℕ) : Type 0 where
   pub after : List (List ℕ)
   pub words_are : new ≡ old ++ flat_map (λ row. row) after
   pub many : count ≡ length after
   pub ascending : IsAscending after
   pub wide : All (λ row. length row ≡ arity) after
-  pub members : (row : List ℕ) → (Contains after row → is_row_after args predicate deletes adds rows row ≡ true) ×
+  pub members : (row : List ℕ) →
+      (Contains after row → is_row_after args predicate deletes adds rows row ≡ true) ×
       (is_row_after args predicate deletes adds rows row ≡ true → Contains after row)
 
 -- the rows from one place up to another
@@ -89,15 +96,19 @@ pub record StandsAt (rows : List (List ℕ)) (place : ℕ) (row : List ℕ) : Ty
   pub is : slice_index_or rows place [] ≡ row
 
 -- the rows up to a given one are appended, then this one if it is added; then it is done
-pub record AppendsUpTo (rows : List (List ℕ)) (row : List ℕ) (added : Bool) (done next more : ℕ) (old new : List ℕ) : Type 0 where
+pub record AppendsUpTo (rows : List (List ℕ)) (row : List ℕ) (added : Bool) (done next more : ℕ)
+    (old new : List ℕ) : Type 0 where
   pub place : ℕ
   pub from : done ≤ place
   pub to : place ≤ length rows
   pub narrowed : IsNarrowed (comes_before false row) rows place place
-  pub words_are : new ≡ old ++ flat_map (λ r. r) (rows_between done place rows ++ (if added then row ∷ [] else []))
+  pub words_are : new ≡ old ++ flat_map (λ r. r)
+      (rows_between done place rows ++ (if added then row ∷ [] else []))
   pub many : more ≡ (place - done) + (if added then 1 else 0)
-  pub next_is : (StandsAt rows place row × (next ≡ place + 1)) ⊎ ((StandsAt rows place row → ⊥) × (next ≡ place))
+  pub next_is : (StandsAt rows place row × (next ≡ place + 1)) ⊎
+      ((StandsAt rows place row → ⊥) × (next ≡ place))
 
 -- each effect is of the task: it has a row for its predicate, of objects of the task
 abbrev pub AreEffects : Task → List ℕ → List Lifted → Type 0
-AreEffects task args effects = (p : ℕ) (d : PredicateDef) → slice_get task.predicates p ≡ Some d → All (IsEffectAt (length task.objects) args p d.arity) effects
+AreEffects task args effects = (p : ℕ) (d : PredicateDef) → slice_get task.predicates p ≡ Some d →
+    All (IsEffectAt (length task.objects) args p d.arity) effects

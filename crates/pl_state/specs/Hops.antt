@@ -32,11 +32,25 @@ place = record { name = []; types = 0 ∷ [] }
 
 -- from one place to another
 abbrev pub hop : Schema
-hop = record { name = []; parameters = place ∷ place ∷ []; condition = []; delete = at_place (term.Parameter 0) ∷ []; add = at_place (term.Parameter 1) ∷ [] }
+hop = record {
+  name = [];
+  parameters = place ∷ place ∷ [];
+  condition = [];
+  delete =
+      at_place (term.Parameter 0) ∷ [];
+  add = at_place (term.Parameter 1) ∷ [];
+}
 
 -- done, and away from a place
 abbrev pub finish : Schema
-finish = record { name = []; parameters = place ∷ []; condition = []; delete = at_place (term.Parameter 0) ∷ []; add = done ∷ [] }
+finish = record {
+  name = [];
+  parameters = place ∷ [];
+  condition = [];
+  delete =
+      at_place (term.Parameter 0) ∷ [];
+  add = done ∷ [];
+}
 
 -- not done; at both places, the first of which is deleted as well
 abbrev pub spread : Schema

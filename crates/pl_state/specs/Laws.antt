@@ -12,7 +12,8 @@ AgreeOnFluents task s t = (a : Atom) → is_fluent_in task a.predicate ≡ true 
 
 -- a set of fluent atoms has at most one layout
 abbrev pub LayoutIsOne : Task → Type 0
-LayoutIsOne task = (s t : State) (words others : List ℕ) → IsLayoutOf task s words → IsLayoutOf task t others →
+LayoutIsOne task = (s t : State) (words others : List ℕ) → IsLayoutOf task s words →
+    IsLayoutOf task t others →
     AgreeOnFluents task s t → words ≡ others
 
 -- two different sets of fluent atoms have different layouts

@@ -1,5 +1,7 @@
--- The words of a state: for each fluent predicate the number of its true atoms, then their objects in ascending order.
-use Rattle.std.specs.Prelude.{◌≡◌, ◌↔◌, ℕ, suc, ◌<◌, ◌^◌, List, [], ◌∷◌, ◌++◌, length, Contains, All, IsTrue, false, Some, slice_get, if◌then◌else◌}
+-- The words of a state: for each fluent predicate the number of its true atoms, then their objects in
+-- ascending order.
+use Rattle.std.specs.Prelude.{◌≡◌, ◌↔◌, ℕ, suc, ◌<◌, ◌^◌, List, [], ◌∷◌, ◌++◌, length, Contains, All, IsTrue}
+use Rattle.std.specs.Prelude.{false, Some, slice_get, if◌then◌else◌}
 use Rattle.std.specs.List.{flat_map}
 use Rattle.pl_rows.specs.Rows.{AreRows}
 use Rattle.pl_task.specs.declared.data.Atom.{Atom}
@@ -15,7 +17,8 @@ atom_of predicate objects = record { predicate = predicate; objects = objects }
 abbrev pub part_of : List (List ℕ) → List ℕ
 part_of rows = length rows ∷ flat_map (λ row. row) rows
 
--- the parts of the fluent ones of these predicates, the first of which has the number p; `rows q` are those of predicate q
+-- the parts of the fluent ones of these predicates, the first of which has the number p; `rows q` are those
+-- of predicate q
 abbrev pub parts_from : (ℕ → List (List ℕ)) → ℕ → List PredicateDef → List ℕ
 parts_from rows p [] = []
 parts_from rows p (d ∷ ds) = (if d.is_static then [] else part_of (rows p)) ++ parts_from rows (suc p) ds

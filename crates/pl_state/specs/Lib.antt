@@ -9,5 +9,6 @@ pub mod Laws
 pub mod Reading
 pub mod Changing
 pub mod Feeding
+pub mod Comparing
 -- the task of the tests
 pub mod Hops

@@ -1,5 +1,7 @@
--- The state that words stand for: the fluent atoms that they lay out, with the static atoms of the initial state.
-use Rattle.std.specs.Prelude.{ℕ, zero, suc, ◌+◌, ◌*◌, Bool, false, not, List, [], ◌∷◌, drop, bytes_eq, slice_index, Option, Some, None, slice_get, if◌then◌else◌}
+-- The state that words stand for: the fluent atoms that they lay out, with the static atoms of the initial
+-- state.
+use Rattle.std.specs.Prelude.{ℕ, zero, suc, ◌+◌, ◌*◌, Bool, false, not, List, [], ◌∷◌, drop, bytes_eq}
+use Rattle.std.specs.Prelude.{slice_index, Option, Some, None, slice_get, if◌then◌else◌}
 use Rattle.std.specs.List.{list_any}
 use Rattle.pl_rows.specs.Rows.{rows_of}
 use Rattle.pl_task.specs.declared.data.PredicateDef.{PredicateDef}
@@ -40,7 +42,8 @@ arity_in task p = arity_one (slice_get task.predicates p)
 -- fluent atoms as the words have them, all others as in the initial state
 abbrev pub state_in : Task → List ℕ → State
 state_in task words a =
-    if is_fluent_in task a.predicate then list_any (bytes_eq a.objects) (rows_in task.predicates words a.predicate) else initial task a
+    if is_fluent_in task a.predicate then list_any (bytes_eq a.objects)
+    (rows_in task.predicates words a.predicate) else initial task a
 
 -- the words are a state of the task: the layout of the state that they stand for
 abbrev pub IsStateOf : Task → List ℕ → Type 0

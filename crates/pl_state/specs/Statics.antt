@@ -6,7 +6,8 @@ use Rattle.pl_task.specs.declared.task.Task.{Task}
 use Rattle.pl_task.specs.States.{State, initial}
 use Rattle.pl_state.specs.Layout.{atom_of}
 
--- the table has, in ascending order, the lists of objects with which the predicate's atom is true in the state
+-- the table has, in ascending order, the lists of objects with which the predicate's atom is true in the
+-- state
 pub record IsAtomTable (s : State) (predicate arity : ℕ) (table : Rows) : Type 0 where
   pub wide : table.arity ≡ arity
   pub rows_are : AreRows arity table.rows
@@ -15,7 +16,8 @@ pub record IsAtomTable (s : State) (predicate arity : ℕ) (table : Rows) : Type
 -- these are tables for the first n predicates, and that of a static one has its initial atoms
 pub record AreStaticUpTo (task : Task) (n : ℕ) (tables : List Rows) : Type 0 where
   pub many : length tables ≡ n
-  pub each : (p : ℕ) (d : PredicateDef) (table : Rows) → slice_get task.predicates p ≡ Some d → d.is_static ≡ true →
+  pub each : (p : ℕ) (d : PredicateDef) (table : Rows) → slice_get task.predicates p ≡ Some d →
+      d.is_static ≡ true →
       slice_get tables p ≡ Some table → IsAtomTable (initial task) p d.arity table
 
 -- these are the tables of the static atoms: one for each predicate of the task

@@ -19,11 +19,13 @@ use std::alloc::{AllocError, Global};
 /// The most objects that an atom has.
 const MOST_OBJECTS: usize = 64;
 
-/// The state that the step leads to, whether or not it is applicable: without its deletes, then with its adds.
+/// The state that the step leads to, whether or not it is applicable: without its deletes, then with its
+/// adds.
 ///
-/// It takes one pass over the words. Parts of predicates that the step doesn't touch are copied whole, and the others are
-/// merged with its deletes and adds. It takes one block of memory. The only error is want of memory; a set with more than
-/// 4,294,967,295 atoms of one fluent predicate has no layout, and always meets it.
+/// It takes one pass over the words. Parts of predicates that the step doesn't touch are copied whole, and
+/// the others are merged with its deletes and adds. It takes one block of memory. The only error is want of
+/// memory; a set with more than 4,294,967,295 atoms of one fluent predicate has no layout, and always meets
+/// it.
 pub fn apply(
     alloc: Global,
     task: &Task,
@@ -35,7 +37,8 @@ pub fn apply(
     ensures layout { IfOk result (IsLayoutOf task.now (result_of task.now (state_in task.now state.now)
         (record { schema = step.entry.schema; args = step.entry.args.now }))) }
     ensures kept { IfOk result (IsStateOf task.now) }
-    ensures state { IfOk result (λ next. state_in task.now next ≡ result_of task.now (state_in task.now state.now)
+    ensures state { IfOk result (λ next. state_in task.now next
+        ≡ result_of task.now (state_in task.now state.now)
         (record { schema = step.entry.schema; args = step.entry.args.now })) }
 {
     let schema = &task.schemas.as_slice()[step.schema as usize];
@@ -108,8 +111,10 @@ fn change_part(
     requires deletes { All (IsEffectAt (length _task.now.objects) args.now predicate arity) deletes.now }
     requires adds { All (IsEffectAt (length _task.now.objects) args.now predicate arity) adds.now }
     ensures { OnOk result ((s : State) →
-        AreTrueRows (length _task.now.objects) s predicate arity (rows_of arity old.entry.count old.entry.flat.now) →
-        AppendsPart (length _task.now.objects) (changed s (map (atom_at args.now) deletes.now) (map (atom_at args.now) adds.now))
+        AreTrueRows (length _task.now.objects) s predicate arity
+        (rows_of arity old.entry.count old.entry.flat.now) →
+        AppendsPart (length _task.now.objects)
+        (changed s (map (atom_at args.now) deletes.now) (map (atom_at args.now) adds.now))
         predicate arity new.old.items new.new.items) }
 {
     let at = new.len();
@@ -122,7 +127,8 @@ fn change_part(
 /// Whether an effect is on the predicate.
 #[inline]
 fn is_touched(deletes: &[Lifted], adds: &[Lifted], predicate: u32) -> bool
-    ensures { result ≡ (list_any (is_of_predicate predicate) deletes.now || list_any (is_of_predicate predicate) adds.now) }
+    ensures { result ≡ (list_any (is_of_predicate predicate) deletes.now
+        || list_any (is_of_predicate predicate) adds.now) }
 {
     are_on(deletes, predicate) || are_on(adds, predicate)
 }

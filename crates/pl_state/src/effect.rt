@@ -1,6 +1,8 @@
 //! The rows of one predicate that a step's effects name, one by one in ascending order.
 
-ghost use Rattle.std.specs.Prelude.{◌≡◌, ◌∷◌, [], ◌++◌, List, false, true, not, length, map, All, IfSome, IsTrue, ◌↔◌};
+ghost use Rattle.std.specs.Prelude.{◌≡◌, ◌∷◌, [], ◌++◌, List, false, true, not, length, map, All, IfSome};
+ghost use Rattle.std.specs.Prelude.{IsTrue, ◌↔◌};
+ghost use Rattle.std.specs.Ordering.{is_lt, is_le};
 ghost use Rattle.pl_rows.specs.Layout.{comes_before};
 ghost use Rattle.pl_task.specs.declared.data.Lifted.{Lifted as LiftedAtom};
 ghost use Rattle.pl_task.specs.States.{value_of, atom_at, is_same};
@@ -8,6 +10,7 @@ ghost use Rattle.pl_state.specs.Layout.{atom_of};
 ghost use Rattle.pl_state.specs.Changing.{HasValue, HasRow, row_under, is_named, is_done, IsNext};
 
 use pl_task::{Lifted, Term};
+use std::cmp::Ordering;
 
 /// The object that a term stands for.
 #[inline]
@@ -36,7 +39,8 @@ pub fn write_row(row: &mut [u32], args: &[u32], terms: &[Term])
 /// Whether an effect names the atom of the predicate with this row.
 #[inline]
 pub fn names(args: &[u32], effects: &[Lifted], predicate: u32, row: &[u32]) -> bool
-    requires { All (λ (e : LiftedAtom). e.predicate ≡ predicate → HasRow args.now (length row.now) e) effects.now }
+    requires { All (λ (e : LiftedAtom). e.predicate ≡ predicate → HasRow args.now (length row.now) e)
+        effects.now }
     ensures { result ≡ is_named args.now predicate effects.now row.now }
 {
     for effect in effects {
@@ -74,7 +78,8 @@ fn has_objects(args: &[u32], terms: &[Term], row: &[u32]) -> bool
     true
 }
 
-/// Of the rows that the effects on a predicate name and that are above that of `last`, the least; none if there is none.
+/// Of the rows that the effects on a predicate name and that are above that of `last`, the least; none if
+/// there is none.
 pub fn next_effect<'e>(
     args: &[u32],
     deletes: &'e [Lifted],
@@ -83,7 +88,8 @@ pub fn next_effect<'e>(
     _arity: u32,
     last: Option<&Lifted>,
 ) -> Option<&'e Lifted>
-    requires deletes { All (λ (e : LiftedAtom). e.predicate ≡ predicate → HasRow args.now _arity e) deletes.now }
+    requires deletes { All (λ (e : LiftedAtom). e.predicate ≡ predicate → HasRow args.now _arity e)
+        deletes.now }
     requires adds { All (λ (e : LiftedAtom). e.predicate ≡ predicate → HasRow args.now _arity e) adds.now }
     requires last { IfSome last (λ l. HasRow args.now _arity l.now) }
     ensures next { IsNext args.now predicate (is_done args.now last.entry) (deletes.now ++ adds.now) result }
@@ -105,10 +111,12 @@ fn least<'e>(
     last: Option<&Lifted>,
     mut best: Option<&'e Lifted>,
 ) -> Option<&'e Lifted>
-    requires effects { All (λ (e : LiftedAtom). e.predicate ≡ predicate → HasRow args.now _arity e) effects.now }
+    requires effects { All (λ (e : LiftedAtom). e.predicate ≡ predicate → HasRow args.now _arity e)
+        effects.now }
     requires last { IfSome last (λ l. HasRow args.now _arity l.now) }
     requires best { IfSome best (λ b. HasRow args.now _arity b.now) }
-    ensures next { (before : List LiftedAtom) → IsNext args.now predicate (is_done args.now last.entry) before best.entry
+    ensures next { (before : List LiftedAtom) →
+        IsNext args.now predicate (is_done args.now last.entry) before best.entry
         → IsNext args.now predicate (is_done args.now last.entry) (before ++ effects.now) result }
     ensures row { IfSome result (λ b. HasRow args.now _arity b.now) }
 {
@@ -131,7 +139,8 @@ fn lesser<'e>(
     requires effect { effect.now.predicate ≡ predicate → HasRow args.now _arity effect.now }
     requires last { IfSome last (λ l. HasRow args.now _arity l.now) }
     requires best { IfSome best (λ b. HasRow args.now _arity b.now) }
-    ensures next { (before : List LiftedAtom) → IsNext args.now predicate (is_done args.now last.entry) before best.entry
+    ensures next { (before : List LiftedAtom) →
+        IsNext args.now predicate (is_done args.now last.entry) before best.entry
         → IsNext args.now predicate (is_done args.now last.entry) (before ++ effect.now ∷ []) result }
     ensures row { IfSome result (λ b. HasRow args.now _arity b.now) }
 {
@@ -144,7 +153,7 @@ fn lesser<'e>(
     match best {
         None => Some(effect),
         Some(known) => {
-            if comes_up_to(args, effect, known, false) {
+            if is_below(args, effect, known) {
                 return Some(effect);
             }
             Some(known)
@@ -161,16 +170,39 @@ fn is_past(args: &[u32], effect: &Lifted, last: Option<&Lifted>) -> bool
 {
     match last {
         None => true,
-        Some(done) => !comes_up_to(args, effect, done, true),
+        Some(done) => !is_at_most(args, effect, done),
     }
 }
 
-/// Whether the first effect's row is below the second's, or with `or_equal` at most that.
+/// Whether the first effect's row is below the second's.
 #[inline]
-fn comes_up_to(args: &[u32], first: &Lifted, second: &Lifted, or_equal: bool) -> bool
+fn is_below(args: &[u32], first: &Lifted, second: &Lifted) -> bool
     requires first { HasRow args.now (length second.now.terms) first.now }
     requires second { All (HasValue (length args.now)) second.now.terms }
-    ensures { result ≡ comes_before or_equal (row_under args.now second.now) (row_under args.now first.now) }
+    ensures { result ≡ comes_before false (row_under args.now second.now) (row_under args.now first.now) }
+{
+    order(args, first, second).is_lt()
+}
+
+/// Whether the first effect's row is the second's or below it.
+#[inline]
+fn is_at_most(args: &[u32], first: &Lifted, second: &Lifted) -> bool
+    requires first { HasRow args.now (length second.now.terms) first.now }
+    requires second { All (HasValue (length args.now)) second.now.terms }
+    ensures { result ≡ comes_before true (row_under args.now second.now) (row_under args.now first.now) }
+{
+    order(args, first, second).is_le()
+}
+
+/// The order of the effects' rows: that of the first values that differ.
+#[inline]
+fn order(args: &[u32], first: &Lifted, second: &Lifted) -> Ordering
+    requires first { HasRow args.now (length second.now.terms) first.now }
+    requires second { All (HasValue (length args.now)) second.now.terms }
+    ensures below { is_lt result
+        ≡ comes_before false (row_under args.now second.now) (row_under args.now first.now) }
+    ensures at_most { is_le result
+        ≡ comes_before true (row_under args.now second.now) (row_under args.now first.now) }
 {
     let first = first.terms.as_slice();
     let second = second.terms.as_slice();
@@ -178,8 +210,8 @@ fn comes_up_to(args: &[u32], first: &Lifted, second: &Lifted, or_equal: bool) ->
         let value_of_first = value(args, first[i]);
         let value_of_second = value(args, second[i]);
         if value_of_first != value_of_second {
-            return value_of_first < value_of_second;
+            return value_of_first.cmp(&value_of_second);
         }
     }
-    or_equal
+    Ordering::Equal
 }

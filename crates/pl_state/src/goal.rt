@@ -14,8 +14,9 @@ use pl_task::{Atom, GoalLiteral, Task};
 
 /// Whether an atom of the task is true in the state.
 ///
-/// An atom over a fluent predicate is looked up by bisection. One over a static predicate is sought among the initial atoms
-/// one by one, since they are in no order: for more than a few questions ask `StaticAtoms::holds`, which bisects.
+/// An atom over a fluent predicate is looked up by bisection. One over a static predicate is sought among the
+/// initial atoms one by one, since they are in no order: for more than a few questions ask
+/// `StaticAtoms::holds`, which bisects.
 pub fn holds(task: &Task, state: &Packed, predicate: u32, args: &[u32]) -> bool
     requires state { IsStateOf task.now state.now }
     requires atom { IsAtomOf task.now.objects task.now.predicates (atom_of predicate args.now) }

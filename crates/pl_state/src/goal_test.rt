@@ -15,8 +15,8 @@ use pl_task::{Atom, GoalLiteral, List, Task};
 use std::alloc::{AllocError, Global};
 use std::marker::Model;
 
-/// The goal of a task for a search, which asks it of many states: literals over static predicates are decided once, and
-/// cost nothing for a state.
+/// The goal of a task for a search, which asks it of many states: literals over static predicates are decided
+/// once, and cost nothing for a state.
 ///
 /// Contracts see how many of these no state meets, and the other literals.
 #[derive(Drop)]

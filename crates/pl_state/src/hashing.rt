@@ -6,7 +6,8 @@ ghost use Rattle.pl_state.specs.Feeding.{four_words as four_words_of, fed_fours,
 
 use std::hash::{Hash, Hasher};
 
-/// Feeds the number of the words, then the words, four in one write: a hasher takes 16 bytes in about the time of one word.
+/// Feeds the number of the words, then the words, four in one write: a hasher takes 16 bytes in about the
+/// time of one word.
 #[inline]
 pub fn feed<H: Hasher>(words: &[u32], state: &mut H)
     ensures { state.new ≡ fold H.write state.old (fed_words words.now) }

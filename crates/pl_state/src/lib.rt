@@ -1,10 +1,11 @@
 //! Packed states: the fluent atoms of a state as one list of words, and what is asked of it.
 //!
-//! The layout and its properties stand in `specs/Layout.antt`, the state that words stand for in `specs/StateOf.antt`, and
-//! the laws by which callers never speak of words in `specs/Laws.antt`.
+//! The layout and its properties stand in `specs/Layout.antt`, the state that words stand for in
+//! `specs/StateOf.antt`, and the laws by which callers never speak of words in `specs/Laws.antt`.
 #![tactic(auto)]
 
 mod applying;
+mod comparing;
 mod count;
 mod effect;
 mod goal;

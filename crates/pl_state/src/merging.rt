@@ -1,11 +1,13 @@
 //! Merging the rows of a predicate with what a step deletes and adds.
 
-ghost use Rattle.std.specs.Prelude.{◌≡◌, ◌+◌, ◌*◌, ◌<◌, ◌≤◌, ◌^◌, ◌++◌, ◌⊎◌, ℕ, false, [], length, All, IfOk, OnOk, if◌then◌else◌};
+ghost use Rattle.std.specs.Prelude.{◌≡◌, ◌+◌, ◌*◌, ◌<◌, ◌≤◌, ◌^◌, ◌++◌, ◌⊎◌, ℕ, false, [], length, All, IfOk};
+ghost use Rattle.std.specs.Prelude.{OnOk, if◌then◌else◌};
 ghost use Rattle.std.specs.List.{flat_map};
 ghost use Rattle.pl_rows.specs.Rows.{rows_of, IsAscending};
 ghost use Rattle.pl_rows.specs.Layout.{comes_before, IsNarrowed};
 ghost use Rattle.pl_task.specs.declared.data.Lifted.{Lifted as LiftedAtom};
-ghost use Rattle.pl_state.specs.Changing.{HasRow, row_under, is_named, rows_between, StandsAt, AppendsUpTo, AppendsRows};
+ghost use Rattle.pl_state.specs.Changing.{HasRow, row_under, is_named, rows_between, StandsAt, AppendsUpTo};
+ghost use Rattle.pl_state.specs.Changing.{AppendsRows};
 
 use crate::count::as_word;
 use crate::effect::{names, next_effect, write_row};
@@ -14,7 +16,8 @@ use pl_rows::bisect::{Bound, bisect, row_at};
 use pl_task::Lifted;
 use std::alloc::AllocError;
 
-/// Appends the rows that the predicate has after the deletes and adds, ascending, and answers how many they are.
+/// Appends the rows that the predicate has after the deletes and adds, ascending, and answers how many they
+/// are.
 ///
 /// The old rows between two that an effect names are copied whole. `row` is room for one row.
 pub fn merge(
@@ -31,7 +34,8 @@ pub fn merge(
     requires few { old.count < 2 ^ 32 }
     requires ascending { IsAscending (rows_of arity old.count old.flat.now) }
     requires row { length row.old ≡ arity }
-    requires deletes { All (λ (e : LiftedAtom). e.predicate ≡ predicate → HasRow args.now arity e) deletes.now }
+    requires deletes { All (λ (e : LiftedAtom). e.predicate ≡ predicate → HasRow args.now arity e)
+        deletes.now }
     requires adds { All (λ (e : LiftedAtom). e.predicate ≡ predicate → HasRow args.now arity e) adds.now }
     ensures few { IfOk result (λ count. count < 2 ^ 32) }
     ensures after { IfOk result (λ count. AppendsRows args.now predicate arity deletes.now adds.now
@@ -54,8 +58,8 @@ pub fn merge(
     Ok(count)
 }
 
-/// Appends the old rows from `done` on that are below the row, then the row if it is added. Answers how many old rows are
-/// done then, and how many rows were appended.
+/// Appends the old rows from `done` on that are below the row, then the row if it is added. Answers how many
+/// old rows are done then, and how many rows were appended.
 #[inline]
 fn merge_row(
     new: &mut Vec<u32>,

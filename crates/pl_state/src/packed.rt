@@ -7,14 +7,17 @@ ghost use Rattle.std.specs.Cmp.Rules.{hashing};
 ghost use Rattle.std.proofs.Common.{rules};
 ghost use Rattle.pl_state.specs.Feeding.{fed_words};
 
+use crate::comparing::are_equal;
 use crate::hashing::feed;
 use std::hash::{Hash, Hasher};
 use std::marker::Model;
 
-/// A state of a task in as few words as its fluent atoms need. Equal, hashed and seen by contracts as its words.
+/// A state of a task in as few words as its fluent atoms need. Equal, hashed and seen by contracts as its
+/// words.
 ///
-/// For each fluent predicate by rising number there is the number of its true atoms, then for each of these, in ascending
-/// order, the numbers of its objects. Static atoms are not kept. So equal states have equal words.
+/// For each fluent predicate by rising number there is the number of its true atoms, then for each of these,
+/// in ascending order, the numbers of its objects. Static atoms are not kept. So equal states have equal
+/// words.
 #[derive(Debug, Drop)]
 pub struct Packed {
     words: Vec<u32>,
@@ -52,7 +55,7 @@ impl PartialEq for Packed {
 
     #[inline]
     fn eq(&self, other: &Packed) -> bool {
-        self.words() == other.words()
+        are_equal(self.words(), other.words())
     }
 }
 

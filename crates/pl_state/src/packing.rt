@@ -15,15 +15,17 @@ use pl_rows::{Range, Table};
 use pl_task::{Atom, Task};
 use std::alloc::{AllocError, Global};
 
-/// The state with these atoms, of which those over static predicates are left out. Their order and repeats don't matter.
+/// The state with these atoms, of which those over static predicates are left out. Their order and repeats
+/// don't matter.
 ///
-/// The only error is want of memory. A set with more than 4,294,967,295 atoms of one fluent predicate has no layout, and
-/// always meets it.
+/// The only error is want of memory. A set with more than 4,294,967,295 atoms of one fluent predicate has no
+/// layout, and always meets it.
 pub fn pack(alloc: Global, task: &Task, atoms: &[Atom]) -> Result<Packed, AllocError>
     requires { All (IsAtomOf task.now.objects task.now.predicates) atoms.now }
     ensures layout { IfOk result (IsLayoutOf task.now (state_of atoms.now)) }
     ensures kept { IfOk result (IsStateOf task.now) }
-    ensures initial { IfOk result (λ packed. atoms.now ≡ task.now.init → state_in task.now packed ≡ initial task.now) }
+    ensures initial { IfOk result (λ packed. atoms.now ≡ task.now.init →
+        state_in task.now packed ≡ initial task.now) }
 {
     let predicates = task.predicates.as_slice();
     let mut words = Vec::new(alloc);

@@ -12,7 +12,8 @@ use pl_task::Task;
 
 /// The atoms of a fluent predicate that are true in the state, each as the row of its objects.
 ///
-/// The rows are a piece of the state's words, found by a walk over the numbers of atoms of the predicates before it.
+/// The rows are a piece of the state's words, found by a walk over the numbers of atoms of the predicates
+/// before it.
 pub fn true_rows<'a>(task: &Task, state: &'a Packed, predicate: u32) -> Rows<'a>
     requires state { IsStateOf task.now state.now }
     requires fluent { is_fluent_in task.now predicate ≡ true }

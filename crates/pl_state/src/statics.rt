@@ -16,7 +16,8 @@ use pl_task::{PredicateDef, Task};
 use std::alloc::{AllocError, Global};
 use std::marker::Model;
 
-/// The atoms over static predicates for a search, which asks for them often: sorted once a task, and found by bisection.
+/// The atoms over static predicates for a search, which asks for them often: sorted once a task, and found by
+/// bisection.
 ///
 /// Contracts see the list of its tables, one for each predicate. That of a fluent predicate says nothing.
 #[derive(Drop)]

@@ -30,12 +30,20 @@ impl Model for StateTables {
 }
 
 impl StateTables {
-    /// The table of a predicate: one row of objects for each of its true atoms. None exactly for a static predicate.
+    /// The table of a predicate: one row of objects for each of its true atoms. None exactly for a static
+    /// predicate.
     pub fn of(&self, predicate: u32) -> Option<&Table>
         requires { predicate < length self.now }
         ensures { slice_get self.now predicate ≡ Some (option_copied result) }
     {
         self.tables[predicate as usize].as_ref()
+    }
+
+    /// The tables by the numbers of their predicates, with None for each static one.
+    pub fn as_slice(&self) -> &[Option<Table>]
+        ensures { result.now ≡ self.now }
+    {
+        self.tables.as_slice()
     }
 }
 

@@ -6,15 +6,21 @@ use Rattle.pl_state.proofs.effect.least.Goals as goal
 
 pub loop-effect-preserved : goal.loop-effect-preserved
 loop-effect-preserved c = record {
-  next = λ before h. subst (λ (l : List Lifted). IsNext c.args.args.now c.args.predicate (is_done c.args.args.now c.args.last) l c.lesser-best.result)
+  next = λ before h. subst (λ (l : List Lifted). IsNext c.args.args.now c.args.predicate
+      (is_done c.args.args.now c.args.last) l c.lesser-best.result)
       (append_assoc before (take c.loop-effect.effect-index c.args.effects.now) (c.effect-item.result ∷ []) ∙
-      ap (λ (l : List Lifted). before ++ l) (ap (λ (x : Lifted). take c.loop-effect.effect-index c.args.effects.now ++ x ∷ []) c.effect-item.is ∙
-      sym (take_more c.args.effects.now c.loop-effect.effect-index c.effect-item.result c.loop-effect-test.true)))
-      (c.lesser-best.ensures.next (before ++ take c.loop-effect.effect-index c.args.effects.now) (c.loop-effect.invariant.next before h));
+      ap (λ (l : List Lifted). before ++ l)
+      (ap (λ (x : Lifted). take c.loop-effect.effect-index c.args.effects.now ++ x ∷ []) c.effect-item.is ∙
+      sym (take_more c.args.effects.now c.loop-effect.effect-index c.effect-item.result
+      c.loop-effect-test.true)))
+      (c.lesser-best.ensures.next (before ++ take c.loop-effect.effect-index c.args.effects.now)
+      (c.loop-effect.invariant.next before h));
   row = c.lesser-best.ensures.row;
 }
 
 pub returns-clause-next : goal.returns-clause-next
 returns-clause-next c = λ before h.
-    subst (λ (l : List Lifted). IsNext c.args.args.now c.args.predicate (is_done c.args.args.now c.args.last) (before ++ l) c.loop-effect.best)
-    (take_all c.loop-effect.effect-index c.args.effects.now c.loop-effect-test.false) (c.loop-effect.invariant.next before h)
+    subst (λ (l : List Lifted). IsNext c.args.args.now c.args.predicate (is_done c.args.args.now c.args.last)
+    (before ++ l) c.loop-effect.best)
+    (take_all c.loop-effect.effect-index c.args.effects.now c.loop-effect-test.false)
+    (c.loop-effect.invariant.next before h)

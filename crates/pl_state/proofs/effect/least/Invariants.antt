@@ -6,6 +6,7 @@ use Rattle.pl_state.proofs.effect.least.Given as goal
 
 abbrev pub invariant-loop-effect : goal.invariant-loop-effect
 invariant-loop-effect l = record {
-  next : (before : List Lifted) → IsNext l.args l.predicate (is_done l.args l.last) before l.fn.best → IsNext l.args l.predicate (is_done l.args l.last) (before ++ take l.effect-index l.effects) l.best;
+  next : (before : List Lifted) → IsNext l.args l.predicate (is_done l.args l.last) before l.fn.best →
+      IsNext l.args l.predicate (is_done l.args l.last) (before ++ take l.effect-index l.effects) l.best;
   row : IfSome l.best (λ b. HasRow l.args l._arity b.now);
 }

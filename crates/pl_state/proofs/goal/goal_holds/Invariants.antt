@@ -5,4 +5,5 @@ use Rattle.pl_state.specs.StateOf.{state_in}
 use Rattle.pl_state.proofs.goal.goal_holds.Given as goal
 
 abbrev pub invariant-loop-literal : goal.invariant-loop-literal
-invariant-loop-literal l = list_all (is_goal_met (state_in l.task l.state)) (take l.literal-index l.literal-items) ≡ true
+invariant-loop-literal l =
+    list_all (is_goal_met (state_in l.task l.state)) (take l.literal-index l.literal-items) ≡ true

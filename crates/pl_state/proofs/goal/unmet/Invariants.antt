@@ -6,5 +6,6 @@ use Rattle.pl_state.proofs.goal.unmet.Given as goal
 abbrev pub invariant-loop-literal : goal.invariant-loop-literal
 invariant-loop-literal l = record {
   few : l.count ≤ l.literal-index;
-  counted : l.count ≡ count_by (λ g. not (is_goal_met (state_in l.task l.state) g)) (take l.literal-index l.literal-items);
+  counted : l.count ≡ count_by (λ g. not (is_goal_met (state_in l.task l.state) g))
+      (take l.literal-index l.literal-items);
 }

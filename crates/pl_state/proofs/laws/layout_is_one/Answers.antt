@@ -8,7 +8,8 @@ pub returns-clause-apart : goal.returns-clause-apart
 returns-clause-apart c = layouts_apart c.args._task.now
 
 pub returns-clause-state : goal.returns-clause-state
-returns-clause-state c = λ s words h. (layout_state c.args._task.now s words h, state_in-layout c.args._task.now s words h)
+returns-clause-state c =
+    λ s words h. (layout_state c.args._task.now s words h, state_in-layout c.args._task.now s words h)
 
 pub returns-clause-same : goal.returns-clause-same
 returns-clause-same c = one_state c.args._task.now

@@ -18,7 +18,9 @@ returns-then-eq c =
     inl (
       record {
         within = within;
-        is = get_or_from_slice_get (rows_of c.args.arity c.args.count c.args.flat.now) c.args.place c.row_at.result.now [] c.row_at.ensures.row ∙ (bytes_eq-Decides c.row_at.result.now c.args.row.now).0 (sym c.if-eq.ensures);
+        is = get_or_from_slice_get (rows_of c.args.arity c.args.count c.args.flat.now) c.args.place
+            c.row_at.result.now [] c.row_at.ensures.row ∙
+            (bytes_eq-Decides c.row_at.result.now c.args.row.now).0 (sym c.if-eq.ensures);
       },
       refl,
     )
@@ -27,6 +29,7 @@ pub returns : goal.returns
 returns c =
     inr (
       (λ stands. false≢true (c.if-eq.ensures ∙ (bytes_eq-Decides c.row_at.result.now c.args.row.now).1
-          (sym (get_or_from_slice_get (rows_of c.args.arity c.args.count c.args.flat.now) c.args.place c.row_at.result.now [] c.row_at.ensures.row) ∙ stands.is))),
+          (sym (get_or_from_slice_get (rows_of c.args.arity c.args.count c.args.flat.now) c.args.place
+          c.row_at.result.now [] c.row_at.ensures.row) ∙ stands.is))),
       refl,
     )
