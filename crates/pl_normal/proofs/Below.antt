@@ -26,22 +26,30 @@ not_atom_below n a h = record {
   not_equal_right = λ x y e. absurd (cc);
 }
 
-pub equal_below : (n : ℕ) (a b : Term) → All (IsTermBelow n) (a ∷ b ∷ []) → IsLiteralBelow n (literal.Equal a b)
+pub equal_below : (n : ℕ) (a b : Term) → All (IsTermBelow n) (a ∷ b ∷ [])
+    → IsLiteralBelow n (literal.Equal a b)
 equal_below n a b h = record {
   atom = λ c e. absurd (cc);
   not_atom = λ c e. absurd (cc);
-  equal_left = λ x y e. (let same : a ≡ x = cc in subst (IsTermBelow n) same (All-head (IsTermBelow n) a (b ∷ []) h));
-  equal_right = λ x y e. (let same : b ≡ y = cc in subst (IsTermBelow n) same (All-head (IsTermBelow n) b [] (All-tail (IsTermBelow n) a (b ∷ []) h)));
+  equal_left = λ x y e.
+      (let same : a ≡ x = cc in subst (IsTermBelow n) same (All-head (IsTermBelow n) a (b ∷ []) h));
+  equal_right = λ x y e.
+      (let same : b ≡ y = cc in subst (IsTermBelow n) same
+      (All-head (IsTermBelow n) b [] (All-tail (IsTermBelow n) a (b ∷ []) h)));
   not_equal_left = λ x y e. absurd (cc);
   not_equal_right = λ x y e. absurd (cc);
 }
 
-pub not_equal_below : (n : ℕ) (a b : Term) → All (IsTermBelow n) (a ∷ b ∷ []) → IsLiteralBelow n (literal.NotEqual a b)
+pub not_equal_below : (n : ℕ) (a b : Term) → All (IsTermBelow n) (a ∷ b ∷ [])
+    → IsLiteralBelow n (literal.NotEqual a b)
 not_equal_below n a b h = record {
   atom = λ c e. absurd (cc);
   not_atom = λ c e. absurd (cc);
   equal_left = λ x y e. absurd (cc);
   equal_right = λ x y e. absurd (cc);
-  not_equal_left = λ x y e. (let same : a ≡ x = cc in subst (IsTermBelow n) same (All-head (IsTermBelow n) a (b ∷ []) h));
-  not_equal_right = λ x y e. (let same : b ≡ y = cc in subst (IsTermBelow n) same (All-head (IsTermBelow n) b [] (All-tail (IsTermBelow n) a (b ∷ []) h)));
+  not_equal_left = λ x y e.
+      (let same : a ≡ x = cc in subst (IsTermBelow n) same (All-head (IsTermBelow n) a (b ∷ []) h));
+  not_equal_right = λ x y e.
+      (let same : b ≡ y = cc in subst (IsTermBelow n) same
+      (All-head (IsTermBelow n) b [] (All-tail (IsTermBelow n) a (b ∷ []) h)));
 }

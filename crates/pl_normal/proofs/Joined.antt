@@ -1,13 +1,18 @@
 -- Chains of equalities, the test of them, and the least member of a class.
-use Rattle.std.proofs.Common.{◌≡◌, ℕ, ◌<◌, ◌≤◌, ◌+◌, zero, suc, Bool, true, false, ◌&&◌, ◌||◌, if◌then◌else◌, List, [], ◌∷◌, ◌++◌, ◌⊎◌, inl, inr, refl, sym, ◌∙◌, ap, subst, arith, eqb-true, eq-eqb}
+use Rattle.std.proofs.Common.{◌≡◌, ℕ, ◌<◌, ◌≤◌, ◌+◌, zero, suc, Bool, true, false, ◌&&◌, ◌||◌, if◌then◌else◌}
+use Rattle.std.proofs.Common.{List, [], ◌∷◌, ◌++◌, ◌⊎◌, inl, inr, refl, sym, ◌∙◌, ap, subst, arith, eqb-true}
+use Rattle.std.proofs.Common.{eq-eqb}
 use Rattle.std.specs.List.{range_with_len}
 use Rattle.std.proofs.lemmas.Bool.{and_parts, and_from, or_cases, false≢true}
-use Rattle.pl_rows.proofs.Canonical.{Contains-cons_cases, Contains-cons_first, Contains-cons_rest, Contains-nil}
-use Rattle.pl_normal.specs.Classes.{Equality, AreEquated, IsChain, AreJoined, are_joined, first_that, class_of}
+use Rattle.pl_rows.proofs.Canonical.{Contains-cons_cases, Contains-cons_first, Contains-cons_rest}
+use Rattle.pl_rows.proofs.Canonical.{Contains-nil}
+use Rattle.pl_normal.specs.Classes.{Equality, AreEquated, IsChain, AreJoined, are_joined, first_that}
+use Rattle.pl_normal.specs.Classes.{class_of}
 
 -- ---- chains
 
-chain_and : (es : List Equality) (a : ℕ) (first : List ℕ) (c : ℕ) (rest : List ℕ) (b : ℕ) → IsChain es a first c → IsChain es c rest b → IsChain es a (first ++ rest) b
+chain_and : (es : List Equality) (a : ℕ) (first : List ℕ) (c : ℕ) (rest : List ℕ) (b : ℕ)
+    → IsChain es a first c → IsChain es c rest b → IsChain es a (first ++ rest) b
 chain_and es a [] c rest b p q = subst (λ x. IsChain es x rest b) (sym p) q
 chain_and es a (x ∷ first) c rest b p q = (p.0, chain_and es x first c rest b p.1 q)
 
@@ -36,7 +41,8 @@ equated_more : (e : Equality) (es : List Equality) (a b : ℕ) → AreEquated es
 equated_more e es a b (inl h) = inl (Contains-cons_rest e es _ h)
 equated_more e es a b (inr h) = inr (Contains-cons_rest e es _ h)
 
-chain_more : (e : Equality) (es : List Equality) (a : ℕ) (rest : List ℕ) (b : ℕ) → IsChain es a rest b → IsChain (e ∷ es) a rest b
+chain_more : (e : Equality) (es : List Equality) (a : ℕ) (rest : List ℕ) (b : ℕ) → IsChain es a rest b
+    → IsChain (e ∷ es) a rest b
 chain_more e es a [] b p = p
 chain_more e es a (c ∷ rest) b p = (equated_more e es a c p.0, chain_more e es c rest b p.1)
 
@@ -45,7 +51,8 @@ joined_more e es a b (rest, p) = (rest, chain_more e es a rest b p)
 
 -- ---- the test
 
-three_ways : (p q r s t : Bool) → (p || ((q && r) || (s && t))) ≡ true → (p ≡ true) ⊎ (((q ≡ true) × (r ≡ true)) ⊎ ((s ≡ true) × (t ≡ true)))
+three_ways : (p q r s t : Bool) → (p || ((q && r) || (s && t))) ≡ true → (p ≡ true)
+    ⊎ (((q ≡ true) × (r ≡ true)) ⊎ ((s ≡ true) × (t ≡ true)))
 three_ways p q r s t h = elim (or_cases p ((q && r) || (s && t)) h) [
   | inl direct ↦ inl direct
   | inr over ↦ inr (elim (or_cases (q && r) (s && t) over) [
@@ -64,15 +71,18 @@ or_first x y h = ap (λ b. b || y) h
 pub tested_joined : (es : List Equality) (a b : ℕ) → are_joined es a b ≡ true → AreJoined es a b
 tested_joined [] a b h = ([], eqb-true a b h)
 tested_joined (e ∷ es) a b h =
-    elim (three_ways (are_joined es a b) (are_joined es a e.left) (are_joined es e.right b) (are_joined es a e.right) (are_joined es e.left b) h) [
+    elim (three_ways (are_joined es a b) (are_joined es a e.left) (are_joined es e.right b)
+    (are_joined es a e.right) (are_joined es e.left b) h) [
       | inl direct ↦ joined_more e es a b (tested_joined es a b direct)
       | inr (inl forth) ↦
           joined_and (e ∷ es) a e.left b (joined_more e es a e.left (tested_joined es a e.left forth.0))
-          (joined_and (e ∷ es) e.left e.right b (joined_once (e ∷ es) e.left e.right (inl (Contains-cons_first e es)))
+          (joined_and (e ∷ es) e.left e.right b
+          (joined_once (e ∷ es) e.left e.right (inl (Contains-cons_first e es)))
           (joined_more e es e.right b (tested_joined es e.right b forth.1)))
       | inr (inr back) ↦
           joined_and (e ∷ es) a e.right b (joined_more e es a e.right (tested_joined es a e.right back.0))
-          (joined_and (e ∷ es) e.right e.left b (joined_once (e ∷ es) e.right e.left (inr (Contains-cons_first e es)))
+          (joined_and (e ∷ es) e.right e.left b
+          (joined_once (e ∷ es) e.right e.left (inr (Contains-cons_first e es)))
           (joined_more e es e.left b (tested_joined es e.left b back.1)))
     ]
 
@@ -83,55 +93,75 @@ test_itself (e ∷ es) a = or_first (are_joined es a a) _ (test_itself es a)
 test_same : (es : List Equality) (a b : ℕ) → a ≡ b → are_joined es a b ≡ true
 test_same es a b h = subst (λ x. are_joined es a x ≡ true) h (test_itself es a)
 
-direct_way : (e : Equality) (es : List Equality) (a b : ℕ) → are_joined es a b ≡ true → are_joined (e ∷ es) a b ≡ true
+direct_way : (e : Equality) (es : List Equality) (a b : ℕ) → are_joined es a b ≡ true
+    → are_joined (e ∷ es) a b ≡ true
 direct_way e es a b h = or_first (are_joined es a b) _ h
 
-forth_way : (e : Equality) (es : List Equality) (a b : ℕ) → are_joined es a e.left ≡ true → are_joined es e.right b ≡ true → are_joined (e ∷ es) a b ≡ true
+forth_way : (e : Equality) (es : List Equality) (a b : ℕ) → are_joined es a e.left ≡ true
+    → are_joined es e.right b ≡ true → are_joined (e ∷ es) a b ≡ true
 forth_way e es a b h k =
-    or_second (are_joined es a b) _ (or_first (are_joined es a e.left && are_joined es e.right b) _ (and_from (are_joined es a e.left) (are_joined es e.right b) h k))
+    or_second (are_joined es a b) _
+    (or_first (are_joined es a e.left && are_joined es e.right b) _
+    (and_from (are_joined es a e.left) (are_joined es e.right b) h k))
 
-back_way : (e : Equality) (es : List Equality) (a b : ℕ) → are_joined es a e.right ≡ true → are_joined es e.left b ≡ true → are_joined (e ∷ es) a b ≡ true
+back_way : (e : Equality) (es : List Equality) (a b : ℕ) → are_joined es a e.right ≡ true
+    → are_joined es e.left b ≡ true → are_joined (e ∷ es) a b ≡ true
 back_way e es a b h k =
-    or_second (are_joined es a b) _ (or_second (are_joined es a e.left && are_joined es e.right b) _ (and_from (are_joined es a e.right) (are_joined es e.left b) h k))
+    or_second (are_joined es a b) _
+    (or_second (are_joined es a e.left && are_joined es e.right b) _
+    (and_from (are_joined es a e.right) (are_joined es e.left b) h k))
 
 -- what is joined by the first equality, and how its other side goes on
-first_forth : (e : Equality) (es : List Equality) (a c b : ℕ) → a ≡ e.left → c ≡ e.right → are_joined (e ∷ es) c b ≡ true → are_joined (e ∷ es) a b ≡ true
+first_forth : (e : Equality) (es : List Equality) (a c b : ℕ) → a ≡ e.left → c ≡ e.right
+    → are_joined (e ∷ es) c b ≡ true → are_joined (e ∷ es) a b ≡ true
 first_forth e es a c b p q h =
-    elim (three_ways (are_joined es c b) (are_joined es c e.left) (are_joined es e.right b) (are_joined es c e.right) (are_joined es e.left b) h) [
-      | inl direct ↦ forth_way e es a b (test_same es a e.left p) (subst (λ x. are_joined es x b ≡ true) q direct)
+    elim (three_ways (are_joined es c b) (are_joined es c e.left) (are_joined es e.right b)
+    (are_joined es c e.right) (are_joined es e.left b) h) [
+      | inl direct ↦ forth_way e es a b (test_same es a e.left p)
+          (subst (λ x. are_joined es x b ≡ true) q direct)
       | inr (inl forth) ↦ forth_way e es a b (test_same es a e.left p) forth.1
       | inr (inr back) ↦ direct_way e es a b (subst (λ x. are_joined es x b ≡ true) (sym p) back.1)
     ]
 
-first_back : (e : Equality) (es : List Equality) (a c b : ℕ) → a ≡ e.right → c ≡ e.left → are_joined (e ∷ es) c b ≡ true → are_joined (e ∷ es) a b ≡ true
+first_back : (e : Equality) (es : List Equality) (a c b : ℕ) → a ≡ e.right → c ≡ e.left
+    → are_joined (e ∷ es) c b ≡ true → are_joined (e ∷ es) a b ≡ true
 first_back e es a c b p q h =
-    elim (three_ways (are_joined es c b) (are_joined es c e.left) (are_joined es e.right b) (are_joined es c e.right) (are_joined es e.left b) h) [
-      | inl direct ↦ back_way e es a b (test_same es a e.right p) (subst (λ x. are_joined es x b ≡ true) q direct)
+    elim (three_ways (are_joined es c b) (are_joined es c e.left) (are_joined es e.right b)
+    (are_joined es c e.right) (are_joined es e.left b) h) [
+      | inl direct ↦ back_way e es a b (test_same es a e.right p)
+          (subst (λ x. are_joined es x b ≡ true) q direct)
       | inr (inl forth) ↦ direct_way e es a b (subst (λ x. are_joined es x b ≡ true) (sym p) forth.1)
       | inr (inr back) ↦ back_way e es a b (test_same es a e.right p) back.1
     ]
 
-rest_before : (e : Equality) (es : List Equality) (a c b : ℕ) → ((x : ℕ) → are_joined es c x ≡ true → are_joined es a x ≡ true) → are_joined (e ∷ es) c b ≡ true → are_joined (e ∷ es) a b ≡ true
+rest_before : (e : Equality) (es : List Equality) (a c b : ℕ)
+    → ((x : ℕ) → are_joined es c x ≡ true → are_joined es a x ≡ true) → are_joined (e ∷ es) c b ≡ true
+    → are_joined (e ∷ es) a b ≡ true
 rest_before e es a c b next h =
-    elim (three_ways (are_joined es c b) (are_joined es c e.left) (are_joined es e.right b) (are_joined es c e.right) (are_joined es e.left b) h) [
+    elim (three_ways (are_joined es c b) (are_joined es c e.left) (are_joined es e.right b)
+    (are_joined es c e.right) (are_joined es e.left b) h) [
       | inl direct ↦ direct_way e es a b (next b direct)
       | inr (inl forth) ↦ forth_way e es a b (next e.left forth.0) forth.1
       | inr (inr back) ↦ back_way e es a b (next e.right back.0) back.1
     ]
 
-one_before : (es : List Equality) (a c b : ℕ) → AreEquated es a c → are_joined es c b ≡ true → are_joined es a b ≡ true
+one_before : (es : List Equality) (a c b : ℕ) → AreEquated es a c → are_joined es c b ≡ true
+    → are_joined es a b ≡ true
 one_before [] a c b (inl h) k = absurd (Contains-nil _ h)
 one_before [] a c b (inr h) k = absurd (Contains-nil _ h)
 one_before (e ∷ es) a c b (inl h) k = elim (Contains-cons_cases e es _ h) [
-  | inl is ↦ first_forth e es a c b (ap (λ (x : Equality). x.left) (sym is)) (ap (λ (x : Equality). x.right) (sym is)) k
+  | inl is ↦ first_forth e es a c b (ap (λ (x : Equality). x.left) (sym is))
+      (ap (λ (x : Equality). x.right) (sym is)) k
   | inr rest ↦ rest_before e es a c b (λ x. one_before es a c x (inl rest)) k
 ]
 one_before (e ∷ es) a c b (inr h) k = elim (Contains-cons_cases e es _ h) [
-  | inl is ↦ first_back e es a c b (ap (λ (x : Equality). x.right) (sym is)) (ap (λ (x : Equality). x.left) (sym is)) k
+  | inl is ↦ first_back e es a c b (ap (λ (x : Equality). x.right) (sym is))
+      (ap (λ (x : Equality). x.left) (sym is)) k
   | inr rest ↦ rest_before e es a c b (λ x. one_before es a c x (inr rest)) k
 ]
 
-chain_tested : (es : List Equality) (a : ℕ) (rest : List ℕ) (b : ℕ) → IsChain es a rest b → are_joined es a b ≡ true
+chain_tested : (es : List Equality) (a : ℕ) (rest : List ℕ) (b : ℕ) → IsChain es a rest b
+    → are_joined es a b ≡ true
 chain_tested es a [] b p = test_same es a b p
 chain_tested es a (c ∷ rest) b p = one_before es a c b p.0 (chain_tested es c rest b p.1)
 
@@ -169,14 +199,16 @@ first_or_later test a n high false t e next = record {
     at_or_above : (a q : ℕ) → a ≤ q → (a ≡ q) ⊎ (a + 1 ≤ q)
     at_or_above a q h = grind arith
 
-first_that-is : (test : ℕ → Bool) (a n high : ℕ) → a + n ≡ high → IsFirstThat test a high (first_that test (range_with_len a n) high)
+first_that-is : (test : ℕ → Bool) (a n high : ℕ) → a + n ≡ high
+    → IsFirstThat test a high (first_that test (range_with_len a n) high)
 first_that-is test a zero high e = record {
   from = omega arith;
   to = omega arith;
   passes = λ h. h;
   least = λ q h k. absurd (omega arith);
 }
-first_that-is test a (suc n) high e = first_or_later test a n high (test a) refl e (first_that-is test (a + 1) n high (omega arith))
+first_that-is test a (suc n) high e = first_or_later test a n high (test a) refl e
+    (first_that-is test (a + 1) n high (omega arith))
 
 -- the least number that is joined to the parameter
 pub record IsLeastJoined (es : List Equality) (p c : ℕ) : Type 0 where
@@ -221,7 +253,9 @@ joined_class es p q h = one_class es p (class_of es q) (record {
 
 pub class_joined : (es : List Equality) (p q : ℕ) → class_of es p ≡ class_of es q → AreJoined es p q
 class_joined es p q h =
-    joined_and es p (class_of es p) q (class_of-least es p).joined (subst (λ c. AreJoined es c q) (sym h) (joined_back es q (class_of es q) (class_of-least es q).joined))
+    joined_and es p (class_of es p) q (class_of-least es p).joined
+    (subst (λ c. AreJoined es c q) (sym h)
+    (joined_back es q (class_of es q) (class_of-least es q).joined))
 
 -- the name of a class is of the class
 pub class_of-class : (es : List Equality) (p : ℕ) → class_of es (class_of es p) ≡ class_of es p

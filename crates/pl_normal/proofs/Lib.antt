@@ -8,13 +8,28 @@ pub mod Listing
 pub mod Lists
 pub mod Sets
 pub mod Forming
+pub mod Forms
 -- for the crates above: the removal of ears
 pub mod Removing
+-- for the crates above: the tables that a query is asked of, and the relations of its edges and nodes
+pub mod Asking
+pub mod Edging
+pub mod Few
+pub mod Joins
+pub mod Leaving
 -- the functions that make a normal form
 mod Loops
 mod Merging
 mod Tabling
 mod Numbers
 pub mod KindLemmas
+-- the functions that make relations and recipes
+mod Pushing
+mod Relating
+mod Sieving
+mod Unchanging
+mod Sharing
+mod NodeRows
+mod Handing
 -- the tests
 mod Below

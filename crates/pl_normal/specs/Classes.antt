@@ -1,5 +1,7 @@
--- Which parameters of a schema always take one object: the classes of parameters, and the objects that equalities fix them to.
-use Rattle.std.specs.Prelude.{◌≡◌, ℕ, Bool, ◌==◌, ◌||◌, ◌&&◌, if◌then◌else◌, List, [], ◌∷◌, ◌⊎◌, Option, Some, None, length, map, slice_index, Contains}
+-- Which parameters of a schema always take one object: the classes of parameters, and the objects that
+-- equalities fix them to.
+use Rattle.std.specs.Prelude.{◌≡◌, ℕ, Bool, ◌==◌, ◌||◌, ◌&&◌, if◌then◌else◌, List, [], ◌∷◌, ◌⊎◌, Option, Some}
+use Rattle.std.specs.Prelude.{None, length, map, slice_index, Contains}
 use Rattle.std.specs.List.{flat_map, range_with_len}
 use Rattle.pl_task.specs.declared.data.Literal.{Literal}
 use Rattle.pl_task.specs.declared.data.Literal.TheVariants as literal
@@ -51,9 +53,11 @@ fixings condition = flat_map literal_fixing condition
 
 -- one of the equalities is between these two parameters
 abbrev pub AreEquated : List Equality → ℕ → ℕ → Type 0
-AreEquated es a b = (Contains es (record { left = a; right = b })) ⊎ (Contains es (record { left = b; right = a }))
+AreEquated es a b = (Contains es (record { left = a; right = b }))
+    ⊎ (Contains es (record { left = b; right = a }))
 
--- the list that begins with a and goes on with the rest ends with b, and each member is equated with the one before it
+-- the list that begins with a and goes on with the rest ends with b, and each member is equated with the one
+-- before it
 abbrev pub IsChain : List Equality → ℕ → List ℕ → ℕ → Type 0
 IsChain es a [] b = a ≡ b
 IsChain es a (c ∷ rest) b = AreEquated es a c × IsChain es c rest b
@@ -62,11 +66,13 @@ IsChain es a (c ∷ rest) b = AreEquated es a c × IsChain es c rest b
 abbrev pub AreJoined : List Equality → ℕ → ℕ → Type 0
 AreJoined es a b = (rest : List ℕ) × IsChain es a rest b
 
--- The same as a test: the two are joined without the first equality, or over it, from the one to its one side and from its other
--- side to the other.
+-- The same as a test: the two are joined without the first equality, or over it, from the one to its one side
+-- and from its other side to the other.
 abbrev pub are_joined : List Equality → ℕ → ℕ → Bool
 are_joined [] a b = a == b
-are_joined (e ∷ es) a b = are_joined es a b || ((are_joined es a e.left && are_joined es e.right b) || (are_joined es a e.right && are_joined es e.left b))
+are_joined (e ∷ es) a b = are_joined es a b
+    || ((are_joined es a e.left && are_joined es e.right b)
+    || (are_joined es a e.right && are_joined es e.left b))
 
 -- the first number that passes, or another where none does
 abbrev pub first_that : (ℕ → Bool) → List ℕ → ℕ → ℕ
@@ -79,9 +85,11 @@ class_of es p = first_that (are_joined es p) (range_with_len 0 p) p
 
 -- the class of each parameter
 unfoldable pub parameter_classes : Schema → List ℕ
-parameter_classes schema = map (class_of (equalities schema.condition)) (range_with_len 0 (length schema.parameters))
+parameter_classes schema = map (class_of (equalities schema.condition))
+    (range_with_len 0 (length schema.parameters))
 
 -- the object that a class is fixed to: that of the first fixing of a parameter of the class
 abbrev pub object_of : List ℕ → List Fixing → ℕ → Option ℕ
 object_of classes [] class = None
-object_of classes (f ∷ fs) class = if slice_index classes f.parameter == class then Some f.object else object_of classes fs class
+object_of classes (f ∷ fs) class = if slice_index classes f.parameter == class then Some f.object else
+    object_of classes fs class

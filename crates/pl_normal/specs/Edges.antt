@@ -10,18 +10,20 @@ use Rattle.pl_normal.specs.declared.form.Edge.{Edge}
 use Rattle.pl_normal.specs.declared.form.Source.TheVariants as source
 use Rattle.pl_normal.specs.Slots.{parameter_slots, slot_at, slots_of, are_fixed, class_set}
 
--- Edges: one for each unfixed parameter, then one for each positive atom that has an unfixed class, in reading order. Edges over
--- the same classes stay apart.
+-- Edges: one for each unfixed parameter, then one for each positive atom that has an unfixed class, in
+-- reading order. Edges over the same classes stay apart.
 
 abbrev pub type_edge : ℕ → Slot → List Edge
 type_edge p (Fixed object) = []
-type_edge p (Class class) = record { source = source.Kind p; slots = Class class ∷ []; classes = class_set (Class class ∷ []) } ∷ []
+type_edge p (Class class) =
+    record { source = source.Kind p; slots = Class class ∷ []; classes = class_set (Class class ∷ []) } ∷ []
 
 unfoldable pub type_edges : List Slot → List Edge
 type_edges slots = flat_map (λ p. type_edge p (slot_at slots p)) (range_with_len 0 (length slots))
 
 abbrev pub edge_over : ℕ → List Slot → List Edge
-edge_over predicate slots = if are_fixed slots then [] else record { source = source.Predicate predicate; slots = slots; classes = class_set slots } ∷ []
+edge_over predicate slots = if are_fixed slots then [] else
+    record { source = source.Predicate predicate; slots = slots; classes = class_set slots } ∷ []
 
 abbrev pub literal_edge : List Slot → Literal → List Edge
 literal_edge slots (literal.Atom a) = edge_over a.predicate (slots_of slots a.terms)

@@ -12,8 +12,8 @@ use Rattle.pl_normal.specs.declared.form.Placed.{Placed}
 use Rattle.pl_normal.specs.Slots.{parameter_slots, slot_of, slots_of, is_fixed, are_fixed, class_set}
 use Rattle.pl_normal.specs.Edges.{edges_of}
 
--- Filters: each inequality and each negated atom that has an unfixed class, in reading order. A filter is local to the least-numbered
--- edge that has all its classes, and late where no edge has.
+-- Filters: each inequality and each negated atom that has an unfixed class, in reading order. A filter is
+-- local to the least-numbered edge that has all its classes, and late where no edge has.
 
 abbrev pub absent_over : ℕ → List Slot → List Sieve
 absent_over predicate slots = if are_fixed slots then [] else sieve.Absent predicate slots ∷ []

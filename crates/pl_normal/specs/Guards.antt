@@ -1,5 +1,6 @@
 -- The guards of a schema.
-use Rattle.std.specs.Prelude.{ℕ, ◌==◌, Bool, true, false, not, if◌then◌else◌, List, [], ◌∷◌, ◌++◌, length, map}
+use Rattle.std.specs.Prelude.{ℕ, ◌==◌, Bool, true, false, not, if◌then◌else◌, List, [], ◌∷◌, ◌++◌, length}
+use Rattle.std.specs.Prelude.{map}
 use Rattle.std.specs.List.{flat_map, list_any, range_with_len}
 use Rattle.std.proofs.Common.{get_or}
 use Rattle.pl_task.specs.declared.data.Atom.{Atom}
@@ -17,9 +18,10 @@ use Rattle.pl_normal.specs.declared.form.Guard.{Guard}
 use Rattle.pl_normal.specs.declared.form.Guard.TheVariants as guard
 use Rattle.pl_normal.specs.Slots.{parameter_slots, slot_at, slot_of, slots_of, are_fixed, fixed_value}
 
--- Guards: the types of each fixed parameter, then each literal without an unfixed class, in reading order. What is known without a
--- state is left out where it is true, and is `Never` where it is false: types, equalities, inequalities, and atoms over static
--- predicates. So a class that equalities join to two objects makes the guard `Never`.
+-- Guards: the types of each fixed parameter, then each literal without an unfixed class, in reading order.
+-- What is known without a state is left out where it is true, and is `Never` where it is false: types,
+-- equalities, inequalities, and atoms over static predicates. So a class that equalities join to two objects
+-- makes the guard `Never`.
 
 -- a guard that is known without a state
 abbrev pub known : Bool → List Guard
@@ -39,7 +41,8 @@ abbrev pub types_at : List Parameter → ℕ → List ℕ
 types_at parameters p = get_or (map (λ (parameter : Parameter). parameter.types) parameters) p []
 
 unfoldable pub type_guards : Task → List Parameter → List Slot → List Guard
-type_guards task parameters slots = flat_map (λ p. type_guard task (types_at parameters p) (slot_at slots p)) (range_with_len 0 (length slots))
+type_guards task parameters slots = flat_map (λ p. type_guard task (types_at parameters p) (slot_at slots p))
+    (range_with_len 0 (length slots))
 
 abbrev pub wanted_guard : Bool → Atom → Guard
 wanted_guard true atom = guard.Holds atom
@@ -52,10 +55,12 @@ is_as_wanted false there = not there
 
 -- the guard of an atom that is wanted true or false; init decides atoms over static predicates
 abbrev pub atom_guard : Task → Bool → Atom → List Guard
-atom_guard task wanted atom = if is_fluent task.schemas atom.predicate then wanted_guard wanted atom ∷ [] else known (is_as_wanted wanted (initial task atom))
+atom_guard task wanted atom = if is_fluent task.schemas atom.predicate then wanted_guard wanted atom ∷ [] else
+    known (is_as_wanted wanted (initial task atom))
 
 abbrev pub guard_over : Task → Bool → ℕ → List Slot → List Guard
-guard_over task wanted predicate slots = if are_fixed slots then atom_guard task wanted (record { predicate = predicate; objects = map fixed_value slots }) else []
+guard_over task wanted predicate slots = if are_fixed slots then atom_guard task wanted
+    (record { predicate = predicate; objects = map fixed_value slots }) else []
 
 -- of two fixed slots, whether their objects are equal just where that is wanted
 abbrev pub equality_guard : Bool → Slot → Slot → List Guard
@@ -74,4 +79,5 @@ unfoldable pub literal_guards : Task → List Slot → List Literal → List Gua
 literal_guards task slots condition = flat_map (literal_guard task slots) condition
 
 unfoldable pub guards_of : Task → Schema → List Guard
-guards_of task schema = type_guards task schema.parameters (parameter_slots schema) ++ literal_guards task (parameter_slots schema) schema.condition
+guards_of task schema = type_guards task schema.parameters (parameter_slots schema)
+    ++ literal_guards task (parameter_slots schema) schema.condition

@@ -1,5 +1,7 @@
--- Lists of types: the number that each distinct one has, and where the tables of the types of all parameters are.
-use Rattle.std.specs.Prelude.{◌≡◌, ℕ, ◌+◌, ◌<◌, ◌≤◌, cond, List, [], ◌∷◌, length, map, take, All, Some, slice_get, slice_index}
+-- Lists of types: the number that each distinct one has, and where the tables of the types of all parameters
+-- are.
+use Rattle.std.specs.Prelude.{◌≡◌, ℕ, ◌+◌, ◌<◌, ◌≤◌, cond, List, [], ◌∷◌, length, map, take, All, Some}
+use Rattle.std.specs.Prelude.{slice_get, slice_index}
 use Rattle.std.specs.Borrow.{Bor}
 use Rattle.std.specs.BTreeMap.{BTreeMap, get}
 use Rattle.std.specs.Cmp.Lexicographic.{slice_cmp}
@@ -25,7 +27,8 @@ lists_of lists = map (λ (list : Bor (List ℕ)). list.now) lists
 abbrev pub list_at : List (List ℕ) → ℕ → List ℕ
 list_at lists i = get_or lists i []
 
--- the number is one of those that were given, and the first list that has it is equal to the one at this place
+-- the number is one of those that were given, and the first list that has it is equal to the one at this
+-- place
 pub record IsNumberOf (lists : List (List ℕ)) (firsts : List ℕ) (place number : ℕ) : Type 0 where
   pub within : number < length firsts
   pub same : list_at lists (slice_index firsts number) ≡ list_at lists place
@@ -41,10 +44,13 @@ abbrev pub list_cmp : Bor (List ℕ) → Bor (List ℕ) → Ordering
 list_cmp a b = slice_cmp nat_cmp a.now b.now
 
 -- the numbers that were given, by their lists
-pub record AreKnown (lists : List (List ℕ)) (known : BTreeMap (Bor (List ℕ)) ℕ) (firsts : List ℕ) : Type 0 where
+pub record AreKnown (lists : List (List ℕ)) (known : BTreeMap (Bor (List ℕ)) ℕ)
+    (firsts : List ℕ) : Type 0 where
   pub places : All (λ f. f < length lists) firsts
-  pub within : (list : Bor (List ℕ)) (number : ℕ) → get list_cmp known list ≡ Some number → number < length firsts
-  pub right : (list : Bor (List ℕ)) (number : ℕ) → get list_cmp known list ≡ Some number → list_at lists (slice_index firsts number) ≡ list.now
+  pub within : (list : Bor (List ℕ)) (number : ℕ) → get list_cmp known list ≡ Some number
+      → number < length firsts
+  pub right : (list : Bor (List ℕ)) (number : ℕ) → get list_cmp known list ≡ Some number
+      → list_at lists (slice_index firsts number) ≡ list.now
 
 -- the new list goes on from the old one
 pub record GoesOn (old new : List ℕ) : Type 0 where
@@ -84,12 +90,15 @@ abbrev pub objects_below : Task → List ℕ → ℕ → List ℕ
 objects_below task types count = flat_map (of_kind task types) (range_with_len 0 count)
 
 -- the tables of the lists of types that have the first numbers
-pub record AreTypeTables (task : Task) (lists : List (List ℕ)) (firsts : List ℕ) (count : ℕ) (tables : List Rows) : Type 0 where
+pub record AreTypeTables (task : Task) (lists : List (List ℕ)) (firsts : List ℕ) (count : ℕ)
+    (tables : List Rows) : Type 0 where
   pub many : length tables ≡ count
-  pub each : (k : ℕ) (d : Rows) → k < count → IsTypeTable task (list_at lists (slice_index firsts k)) (get_or tables k d)
+  pub each : (k : ℕ) (d : Rows) → k < count → IsTypeTable task (list_at lists (slice_index firsts k))
+      (get_or tables k d)
 
 -- the table of these types is the one whose number stands at this place
-pub record IsTableAt (task : Task) (types : List ℕ) (numbers : List ℕ) (tables : List Rows) (place : ℕ) : Type 0 where
+pub record IsTableAt (task : Task) (types : List ℕ) (numbers : List ℕ) (tables : List Rows)
+    (place : ℕ) : Type 0 where
   pub numbered : place < length numbers
   pub within : slice_index numbers place < length tables
   pub table : (d : Rows) → IsTypeTable task types (get_or tables (slice_index numbers place) d)

@@ -13,7 +13,11 @@ pub mod Query
 pub mod Measures
 pub mod Laws
 pub mod Tables
+pub mod StateTables
+pub mod Queries
+pub mod Recipes
 -- what the functions inside the crate promise each other
 pub mod Scope
+pub mod Asked
 pub mod Kinds
 pub mod NormalTasks

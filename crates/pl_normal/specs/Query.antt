@@ -35,7 +35,8 @@ is_of_kind task types (object ∷ (other ∷ rest)) = false
 -- whether a row is in the relation of a source
 abbrev pub is_in_source : Task → Schema → State → Source → List ℕ → Bool
 is_in_source task schema s (source.Kind p) row = is_of_kind task (types_at schema.parameters p) row
-is_in_source task schema s (source.Predicate predicate) row = s (record { predicate = predicate; objects = row })
+is_in_source task schema s (source.Predicate predicate) row =
+    s (record { predicate = predicate; objects = row })
 
 -- the values of the slots
 abbrev pub values_of : Assignment → List Slot → List ℕ
@@ -52,12 +53,14 @@ meets_guard s guard.Never = false
 
 abbrev pub meets_sieve : State → Assignment → Sieve → Bool
 meets_sieve s f (sieve.NotEqual a b) = not (slot_value f a == slot_value f b)
-meets_sieve s f (sieve.Absent predicate slots) = not (s (record { predicate = predicate; objects = values_of f slots }))
+meets_sieve s f (sieve.Absent predicate slots) =
+    not (s (record { predicate = predicate; objects = values_of f slots }))
 
 -- whether the assignment meets all edges, guards and local filters
 unfoldable pub is_local_answer : Task → Schema → State → Assignment → Bool
 is_local_answer task schema s f =
-    list_all (meets_edge task schema s f) (edges_of schema) && list_all (meets_guard s) (guards_of task schema)
+    list_all (meets_edge task schema s f) (edges_of schema)
+    && list_all (meets_guard s) (guards_of task schema)
     && list_all (λ (placed : Placed). meets_sieve s f placed.sieve) (local_of schema)
 
 -- whether the assignment meets all edges, guards and filters

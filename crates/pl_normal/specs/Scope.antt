@@ -1,5 +1,6 @@
 -- Terms and literals whose parameters are in range, and slots whose objects and classes are.
-use Rattle.std.specs.Prelude.{◌≡◌, ℕ, ◌<◌, ◌==◌, if◌then◌else◌, cond, List, [], ◌∷◌, map, slice_index, All, min, max}
+use Rattle.std.specs.Prelude.{◌≡◌, ℕ, ◌<◌, ◌==◌, if◌then◌else◌, cond, List, [], ◌∷◌, map, slice_index, All}
+use Rattle.std.specs.Prelude.{min, max}
 use Rattle.pl_task.specs.declared.data.Lifted.{Lifted}
 use Rattle.pl_task.specs.declared.data.Literal.{Literal}
 use Rattle.pl_task.specs.declared.data.Literal.TheVariants as literal
@@ -42,7 +43,8 @@ renamed x y name = if name == max x y then min x y else name
 -- the classes after the equalities, each of which gives two classes one name
 abbrev pub joined_by : List Equality → List ℕ → List ℕ
 joined_by [] classes = classes
-joined_by (e ∷ es) classes = joined_by es (map (renamed (slice_index classes e.left) (slice_index classes e.right)) classes)
+joined_by (e ∷ es) classes = joined_by es
+    (map (renamed (slice_index classes e.left) (slice_index classes e.right)) classes)
 
 -- the number, unless it is among the classes
 abbrev pub other_of : List ℕ → ℕ → List ℕ

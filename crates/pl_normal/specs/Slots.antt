@@ -1,4 +1,5 @@
--- The slots of the parameters of a schema: a parameter stands for its class, or for the object that its class is fixed to.
+-- The slots of the parameters of a schema: a parameter stands for its class, or for the object that its class
+-- is fixed to.
 use Rattle.std.specs.Prelude.{ℕ, ◌^◌, Bool, true, false, List, Option, Some, None, map, bit_or}
 use Rattle.std.specs.List.{fold, list_all}
 use Rattle.std.proofs.Common.{get_or}
@@ -14,9 +15,11 @@ abbrev pub class_slot : Option ℕ → ℕ → Slot
 class_slot None class = Class class
 class_slot (Some object) class = Fixed object
 
--- the objects that the classes of the parameters are fixed to, those of equalities to two objects to the first
+-- the objects that the classes of the parameters are fixed to, those of equalities to two objects to the
+-- first
 unfoldable pub fixed_objects : Schema → List (Option ℕ)
-fixed_objects schema = map (object_of (parameter_classes schema) (fixings schema.condition)) (parameter_classes schema)
+fixed_objects schema = map (object_of (parameter_classes schema) (fixings schema.condition))
+    (parameter_classes schema)
 
 abbrev pub slot_object : Slot → Option ℕ
 slot_object (Fixed object) = Some object
@@ -24,7 +27,9 @@ slot_object (Class class) = None
 
 -- the slot of each parameter
 unfoldable pub parameter_slots : Schema → List Slot
-parameter_slots schema = map (λ class. class_slot (object_of (parameter_classes schema) (fixings schema.condition) class) class) (parameter_classes schema)
+parameter_slots schema =
+    map (λ class. class_slot (object_of (parameter_classes schema) (fixings schema.condition) class) class)
+    (parameter_classes schema)
 
 -- the slot of a parameter
 abbrev pub slot_at : List Slot → ℕ → Slot

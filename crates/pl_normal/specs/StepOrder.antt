@@ -14,6 +14,7 @@ read_in order args = map (slice_index args) order
 unfoldable pub step_key : Task → Instance → List ℕ
 step_key task step = step.schema ∷ read_in (order_of task step.schema) step.args
 
--- steps are compared by the number of the schema, then by their objects read in its parameter order: the first difference decides
+-- steps are compared by the number of the schema, then by their objects read in its parameter order: the
+-- first difference decides
 abbrev pub step_cmp : Task → Instance → Instance → Ordering
 step_cmp task a b = row_cmp (step_key task a) (step_key task b)

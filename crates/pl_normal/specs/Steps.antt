@@ -1,4 +1,5 @@
--- The lists of all steps of a task and of those that are applicable in a state. Every tuple of objects is tried.
+-- The lists of all steps of a task and of those that are applicable in a state. Every tuple of objects is
+-- tried.
 use Rattle.std.specs.Prelude.{ℕ, zero, suc, ◌+◌, ◌==◌, cond, List, [], ◌∷◌, length, map, slice_index}
 use Rattle.std.specs.List.{filter, flat_map, range_with_len}
 use Rattle.pl_task.specs.declared.task.Task.{Task}
@@ -23,9 +24,11 @@ arranged order tuple = map (λ p. slice_index tuple (place_of p order)) (range_w
 abbrev pub step_of : ℕ → List ℕ → List ℕ → Instance
 step_of schema order tuple = record { schema = schema; args = arranged order tuple }
 
--- the steps of a schema: all tuples of objects in lexicographic order, each read in the order of the parameters
+-- the steps of a schema: all tuples of objects in lexicographic order, each read in the order of the
+-- parameters
 abbrev pub steps_of : Task → ℕ → List Instance
-steps_of task schema = map (step_of schema (order_of task schema)) (tuples (length task.objects) (length (order_of task schema)))
+steps_of task schema = map (step_of schema (order_of task schema))
+    (tuples (length task.objects) (length (order_of task schema)))
 
 -- all steps of the task, schema by schema
 unfoldable pub all_steps : Task → List Instance

@@ -1,5 +1,6 @@
 -- The tables that no state changes: those of static predicates, and those of the types of parameters.
-use Rattle.std.specs.Prelude.{◌≡◌, ◌≢◌, ◌++◌, ◌↔◌, ◌<◌, ◌==◌, ℕ, cond, true, false, IsTrue, List, [], ◌∷◌, length, Contains, Option, Some, None, slice_get}
+use Rattle.std.specs.Prelude.{◌≡◌, ◌≢◌, ◌++◌, ◌↔◌, ◌<◌, ◌==◌, ℕ, cond, true, false, IsTrue, List, [], ◌∷◌}
+use Rattle.std.specs.Prelude.{length, Contains, Option, Some, None, slice_get}
 use Rattle.std.specs.List.{flat_map}
 use Rattle.std.proofs.Common.{get_or}
 use Rattle.pl_rows.specs.Rows.{Rows, AreRows}
@@ -21,7 +22,8 @@ pub record IsAtomTable (task : Task) (predicate : ℕ) (table : Rows) : Type 0 w
 -- a static predicate has its table, and a fluent one none
 abbrev pub IsStatic : Task → ℕ → Option Rows → Type 0
 IsStatic task predicate None = is_fluent task.schemas predicate ≡ true
-IsStatic task predicate (Some table) = (is_fluent task.schemas predicate ≡ false) × IsAtomTable task predicate table
+IsStatic task predicate (Some table) = (is_fluent task.schemas predicate ≡ false)
+    × IsAtomTable task predicate table
 
 -- what the predicates have, by their numbers
 pub record AreStatics (task : Task) (tables : List (Option Rows)) : Type 0 where
@@ -35,14 +37,17 @@ row_about predicate a = cond (a.predicate == predicate) (a.objects ∷ []) []
 abbrev pub rows_about : ℕ → List Atom → List (List ℕ)
 rows_about predicate atoms = flat_map (row_about predicate) atoms
 
--- the rows that are gathered for a predicate have its arity, and are those of the atoms so far, in their order
+-- the rows that are gathered for a predicate have its arity, and are those of the atoms so far, in their
+-- order
 abbrev pub gathered : PredicateDef → ℕ → List Atom → Rows
 gathered d predicate atoms = record { arity = d.arity; rows = rows_about predicate atoms }
 
 -- for each static predicate the rows of its atoms are gathered
-pub record AreGathered (predicates : List PredicateDef) (atoms : List Atom) (builders : List Rows) : Type 0 where
+pub record AreGathered (predicates : List PredicateDef) (atoms : List Atom)
+    (builders : List Rows) : Type 0 where
   pub many : length builders ≡ length predicates
-  pub each : (p : ℕ) (d : PredicateDef) (b : Rows) → slice_get predicates p ≡ Some d → d.is_static ≡ true → get_or builders p b ≡ gathered d p atoms
+  pub each : (p : ℕ) (d : PredicateDef) (b : Rows) → slice_get predicates p ≡ Some d → d.is_static ≡ true
+      → get_or builders p b ≡ gathered d p atoms
 
 -- a row more at one place, and nothing else
 pub record AddsRow (old new : List Rows) (place : ℕ) (row : List ℕ) : Type 0 where

@@ -2,7 +2,9 @@
 
 ghost use Rattle.std.specs.Prelude.{◌≡◌, ◌<◌, ◌≤◌, ◌++◌, length, map, slice_index, All, IfOk, OnOk};
 ghost use Rattle.std.specs.List.{range_with_len};
-ghost use Rattle.pl_normal.specs.Classes.{equality_list, equality_of, literal_equality, equalities, fixing_of, literal_fixing, fixings, class_of, parameter_classes, object_of};
+ghost use Rattle.pl_normal.specs.Classes.{equality_list, equality_of, literal_equality, equalities};
+ghost use Rattle.pl_normal.specs.Classes.{fixing_of, literal_fixing, fixings, class_of, parameter_classes};
+ghost use Rattle.pl_normal.specs.Classes.{object_of};
 ghost use Rattle.pl_normal.specs.Slots.{class_slot, slot_object};
 ghost use Rattle.pl_normal.specs.Scope.{IsLiteralBelow, renamed, joined_by};
 
@@ -40,7 +42,8 @@ fn all_numbers(alloc: Global, bound: u32) -> Result<Vec<u32>, AllocError>
 fn join_parameters(classes: &mut [u32], condition: &[Literal])
     requires start { classes.old ≡ range_with_len 0 (length classes.old) }
     requires literals { All (IsLiteralBelow (length classes.old)) condition.now }
-    ensures { classes.new ≡ map (class_of (equalities condition.now)) (range_with_len 0 (length classes.old)) }
+    ensures { classes.new ≡ map (class_of (equalities condition.now))
+        (range_with_len 0 (length classes.old)) }
 {
     for literal in condition {
         join_by(classes, literal);
@@ -87,7 +90,8 @@ fn both_parameters(a: Term, b: Term) -> Option<(u32, u32)>
 fn merge(classes: &mut [u32], a: u32, b: u32)
     requires a_within { a < length classes.old }
     requires b_within { b < length classes.old }
-    ensures { classes.new ≡ map (renamed (slice_index classes.old a) (slice_index classes.old b)) classes.old }
+    ensures { classes.new ≡ map (renamed (slice_index classes.old a) (slice_index classes.old b))
+        classes.old }
 {
     let x = classes[a as usize];
     let y = classes[b as usize];

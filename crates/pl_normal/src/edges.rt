@@ -12,7 +12,8 @@ use pl_join::Slot;
 use pl_task::{Lifted, List, Literal};
 use std::alloc::{AllocError, Global};
 
-/// The edges of a schema: one for each parameter that is not fixed, then one for each positive atom with a class.
+/// The edges of a schema: one for each parameter that is not fixed, then one for each positive atom with a
+/// class.
 ///
 /// `slots` are those of the parameters.
 pub fn edges(alloc: Global, slots: &[Slot], condition: &[Literal]) -> Result<Vec<Edge>, AllocError>

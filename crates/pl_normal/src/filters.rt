@@ -4,7 +4,8 @@ ghost use Rattle.std.specs.Prelude.{◌≡◌, ◌<◌, ◌^◌, ◌++◌, lengt
 ghost use Rattle.std.specs.List.{flat_map, position_from};
 ghost use Rattle.std.specs.Option.{option_to_list};
 ghost use Rattle.pl_join.specs.Relation.{IsSlotBelow};
-ghost use Rattle.pl_normal.specs.Filters.{literal_sieve, absent_over, unequal_over, sieves_of, sieve_classes, has_all, home, local_at, late_at, local_among, late_among};
+ghost use Rattle.pl_normal.specs.Filters.{literal_sieve, absent_over, unequal_over, sieves_of, sieve_classes};
+ghost use Rattle.pl_normal.specs.Filters.{has_all, home, local_at, late_at, local_among, late_among};
 ghost use Rattle.pl_normal.specs.Slots.{slots_of};
 ghost use Rattle.pl_normal.specs.Scope.{IsTermBelow, IsLiteralBelow, IsSieveBelow};
 
@@ -32,7 +33,8 @@ pub fn filters(
     requires slots { All (IsSlotBelow 64) slots.now }
     requires literals { All (IsLiteralBelow (length slots.now)) condition.now }
     ensures local { IfOk result (λ f. f.local.items ≡ local_among edges.now (sieves_of slots.now condition.now)) }
-    ensures late { IfOk result (λ f. f.late.items ≡ late_among edges.now (sieves_of slots.now condition.now)) }
+    ensures late { IfOk result
+        (λ f. f.late.items ≡ late_among edges.now (sieves_of slots.now condition.now)) }
 {
     let mut filters = FilterLists {
         local: Vec::new(alloc),
@@ -56,9 +58,11 @@ fn add_filter(
     requires slots { All (IsSlotBelow 64) slots.now }
     requires literal { IsLiteralBelow (length slots.now) literal.now }
     ensures local { OnOk result (filters.new.local.items
-        ≡ filters.old.local.items ++ flat_map (λ s. local_at (home edges.now s) s) (literal_sieve slots.now literal.now)) }
+        ≡ filters.old.local.items ++ flat_map (λ s. local_at (home edges.now s) s)
+        (literal_sieve slots.now literal.now)) }
     ensures late { OnOk result (filters.new.late.items
-        ≡ filters.old.late.items ++ flat_map (λ s. late_at (home edges.now s) s) (literal_sieve slots.now literal.now)) }
+        ≡ filters.old.late.items ++ flat_map (λ s. late_at (home edges.now s) s)
+        (literal_sieve slots.now literal.now)) }
 {
     match sieve_of(alloc, slots, literal)? {
         None => Ok(()),
@@ -114,8 +118,10 @@ fn unequal_sieve(a: Slot, b: Slot) -> Option<Sieve>
 fn place(filters: &mut FilterLists, edges: &[Edge], sieve: Sieve) -> Result<(), AllocError>
     requires few { length edges.now < 2 ^ 32 }
     requires sieve { IsSieveBelow sieve }
-    ensures local { OnOk result (filters.new.local.items ≡ filters.old.local.items ++ local_at (home edges.now sieve) sieve) }
-    ensures late { OnOk result (filters.new.late.items ≡ filters.old.late.items ++ late_at (home edges.now sieve) sieve) }
+    ensures local { OnOk result (filters.new.local.items ≡ filters.old.local.items
+        ++ local_at (home edges.now sieve) sieve) }
+    ensures late { OnOk result (filters.new.late.items ≡ filters.old.late.items
+        ++ late_at (home edges.now sieve) sieve) }
 {
     match home(edges, sieve_classes(&sieve)) {
         None => {

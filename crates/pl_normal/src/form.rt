@@ -60,7 +60,8 @@ pub struct NormalSchema {
     pub class_of: List<u32>,
     /// For each parameter the object that positive equalities fix its class to, if any.
     pub fixed: List<Option<u32>>,
-    /// First the types of each unfixed parameter, then each positive atom with an unfixed class, in reading order.
+    /// First the types of each unfixed parameter, then each positive atom with an unfixed class, in reading
+    /// order.
     pub edges: List<Edge>,
     /// The guards that a state decides, and those that fail in every state.
     pub guards: List<Guard>,
@@ -70,6 +71,7 @@ pub struct NormalSchema {
     pub late: List<Sieve>,
     /// The ears of the edges.
     pub plan: EarPlan,
-    /// The parameters in the order in which tuples of objects are read: class order, then the other parameters, rising.
+    /// The parameters in the order in which tuples of objects are read: class order, then the other
+    /// parameters, rising.
     pub order: List<u32>,
 }

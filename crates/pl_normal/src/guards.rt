@@ -4,7 +4,9 @@ ghost use Rattle.std.specs.Prelude.{◌≡◌, ◌<◌, ◌++◌, ◌==◌, leng
 ghost use Rattle.pl_task.specs.WellFormed.{IsLiteralOf, IsLiftedOf};
 ghost use Rattle.pl_task.specs.declared.data.Parameter.{Parameter as ParameterOf};
 ghost use Rattle.pl_task.specs.declared.data.PredicateDef.{PredicateDef as PredicateOf};
-ghost use Rattle.pl_normal.specs.Guards.{known, is_as_wanted, wanted_guard, atom_guard, has_some_type, type_guard, type_guards, guard_over, equality_guard, literal_guard, literal_guards};
+ghost use Rattle.pl_normal.specs.Guards.{known, is_as_wanted, wanted_guard, atom_guard, has_some_type};
+ghost use Rattle.pl_normal.specs.Guards.{type_guard, type_guards, guard_over, equality_guard, literal_guard};
+ghost use Rattle.pl_normal.specs.Guards.{literal_guards};
 ghost use Rattle.pl_normal.specs.Scope.{IsSlotOf, IsLiteralBelow};
 ghost use Rattle.pl_normal.specs.Slots.{slots_of, are_fixed, fixed_value};
 ghost use Rattle.pl_normal.specs.Tables.{AreStatics, row_atom};
@@ -124,9 +126,11 @@ fn add_literal_guard(
     literal: &Literal,
 ) -> Result<(), AllocError>
     requires statics { AreStatics task.now statics.now }
-    requires literal { IsLiteralOf task.now.predicates (length task.now.objects) (length slots.now) literal.now }
+    requires literal { IsLiteralOf task.now.predicates (length task.now.objects)
+        (length slots.now) literal.now }
     requires below { IsLiteralBelow (length slots.now) literal.now }
-    ensures { OnOk result (guards.new.items ≡ guards.old.items ++ literal_guard task.now slots.now literal.now) }
+    ensures { OnOk result (guards.new.items ≡ guards.old.items
+        ++ literal_guard task.now slots.now literal.now) }
 {
     match literal {
         Literal::Atom(atom) => add_atom_guard(alloc, task, statics, guards, slots, true, atom),
@@ -159,13 +163,13 @@ fn add_equality_guard(
         },
         Slot::Fixed(a) => match b {
             Slot::Class(_) => Ok(()),
-            Slot::Fixed(b) => add_known(guards, as_wanted(wanted, a == b)),
+            Slot::Fixed(b) => add_known(guards, is_as_wanted(wanted, a == b)),
         },
     }
 }
 
 /// Whether something is there just where it is wanted.
-fn as_wanted(wanted: bool, there: bool) -> bool
+fn is_as_wanted(wanted: bool, there: bool) -> bool
     ensures { result ≡ is_as_wanted wanted there }
 {
     if wanted { there } else { !there }
@@ -184,7 +188,8 @@ fn add_atom_guard(
     requires statics { AreStatics task.now statics.now }
     requires atom { IsLiftedOf task.now.predicates (length task.now.objects) (length slots.now) atom.now }
     ensures { OnOk result (guards.new.items
-        ≡ guards.old.items ++ guard_over task.now wanted atom.now.predicate (slots_of slots.now atom.now.terms)) }
+        ≡ guards.old.items ++ guard_over task.now wanted atom.now.predicate
+        (slots_of slots.now atom.now.terms)) }
 {
     let row = slots_of(alloc, slots, atom.terms.as_slice())?;
     if !are_fixed(&row) {
@@ -205,12 +210,13 @@ fn add_ground_guard(
 ) -> Result<(), AllocError>
     requires statics { AreStatics task.now statics.now }
     requires predicate { predicate < length task.now.predicates }
-    requires arity { (d : PredicateOf) → slice_get task.now.predicates predicate ≡ Some d → length objects.items ≡ d.arity }
+    requires arity { (d : PredicateOf) → slice_get task.now.predicates predicate ≡ Some d
+        → length objects.items ≡ d.arity }
     ensures { OnOk result (guards.new.items
         ≡ guards.old.items ++ atom_guard task.now wanted (row_atom predicate objects.items)) }
 {
     match &statics[predicate as usize] {
-        Some(table) => add_known(guards, as_wanted(wanted, has_row(table, &objects))),
+        Some(table) => add_known(guards, is_as_wanted(wanted, has_row(table, &objects))),
         None => {
             let objects = List::of(objects);
             guards.push(wanted_guard(wanted, Atom { predicate, objects }))?;

@@ -1,8 +1,11 @@
 //! The tables of the types of parameters. Parameters with the same list of types share one.
 
-ghost use Rattle.std.specs.Prelude.{◌≡◌, ℕ, ◌<◌, ◌++◌, List, [], ◌∷◌, cond, map, length, take, All, IfOk, OnOk};
-ghost use Rattle.pl_normal.specs.Guards.{has_some_type};
-ghost use Rattle.pl_normal.specs.Kinds.{lists_of, IsNumbering, object_types, parameter_types, all_types, AreStarts, of_kind, objects_below, AreTypeTables, AreKindTables};
+ghost use Rattle.std.specs.Prelude.{◌≡◌, ℕ, ◌<◌, ◌++◌, List, [], ◌∷◌, cond, map, length, take, All, IfOk};
+ghost use Rattle.std.specs.Prelude.{OnOk, Some, slice_get};
+ghost use Rattle.pl_task.specs.declared.data.Schema.{Schema as SchemaOf};
+ghost use Rattle.pl_normal.specs.Guards.{has_some_type, types_at};
+ghost use Rattle.pl_normal.specs.Kinds.{lists_of, IsNumbering, object_types, parameter_types, all_types};
+ghost use Rattle.pl_normal.specs.Kinds.{AreStarts, of_kind, objects_below, AreTypeTables, AreKindTables};
 ghost use Rattle.pl_normal.specs.Tables.{IsTypeTable};
 
 use crate::guards::has_some_type;
@@ -46,6 +49,26 @@ pub fn kind_tables(alloc: Global, task: &Task) -> Result<KindTables, AllocError>
     })
 }
 
+/// The table of the types of a parameter.
+pub fn type_table_at<'a>(
+    _task: &Task,
+    kinds: &'a KindTables,
+    schema: u32,
+    parameter: u32,
+) -> &'a Table
+    requires kinds { AreKindTables _task.now kinds.now.starts.items kinds.now.numbers.items
+        kinds.now.tables.items }
+    requires schema { schema < length _task.now.schemas }
+    requires parameter { (s : SchemaOf) → slice_get _task.now.schemas schema ≡ Some s
+        → parameter < length s.parameters }
+    ensures { (s : SchemaOf) → slice_get _task.now.schemas schema ≡ Some s →
+        IsTypeTable _task.now (types_at s.parameters parameter) result.now }
+{
+    let first = kinds.starts[schema as usize];
+    let number = kinds.numbers[first + parameter as usize];
+    &kinds.tables[number]
+}
+
 /// The types of the parameters of all schemas.
 fn types_of_parameters<'t>(
     alloc: Global,
@@ -65,7 +88,8 @@ fn types_of_parameters<'t>(
 
 /// Appends the types of each parameter.
 fn add_types<'t>(lists: &mut Vec<&'t [u32]>, parameters: &'t [Parameter]) -> Result<(), AllocError>
-    ensures { OnOk result (lists_of lists.new.items ≡ lists_of lists.old.items ++ parameter_types parameters.now) }
+    ensures { OnOk result (lists_of lists.new.items ≡ lists_of lists.old.items
+        ++ parameter_types parameters.now) }
 {
     for i in 0..parameters.len() {
         lists.push(parameters[i].types.as_slice())?;
@@ -95,10 +119,13 @@ fn type_tables(
     lists: &[&[u32]],
     firsts: &[usize],
 ) -> Result<Vec<Table>, AllocError>
-    requires objects { IsNumbering (object_types task.now.objects) objects.now.numbers.items objects.now.firsts.items }
+    requires objects { IsNumbering (object_types task.now.objects) objects.now.numbers.items
+        objects.now.firsts.items }
     requires firsts { All (λ f. f < length lists.now) firsts.now }
-    requires types { All (λ (types : List ℕ). All (λ t. t < length task.now.types) types) (lists_of lists.now) }
-    ensures { IfOk result (λ v. AreTypeTables task.now (lists_of lists.now) firsts.now (length firsts.now) v.items) }
+    requires types { All (λ (types : List ℕ). All (λ t. t < length task.now.types) types)
+        (lists_of lists.now) }
+    ensures { IfOk result
+        (λ v. AreTypeTables task.now (lists_of lists.now) firsts.now (length firsts.now) v.items) }
 {
     let mut tables = Vec::with_capacity(alloc, firsts.len())?;
     for k in 0..firsts.len() {
@@ -114,7 +141,8 @@ fn type_table(
     objects: &Numbering,
     types: &[u32],
 ) -> Result<Table, AllocError>
-    requires objects { IsNumbering (object_types task.now.objects) objects.now.numbers.items objects.now.firsts.items }
+    requires objects { IsNumbering (object_types task.now.objects) objects.now.numbers.items
+        objects.now.firsts.items }
     requires types { All (λ t. t < length task.now.types) types.now }
     ensures { IfOk result (IsTypeTable task.now types.now) }
 {
@@ -130,7 +158,8 @@ fn objects_with(
     objects: &Numbering,
     types: &[u32],
 ) -> Result<Vec<u32>, AllocError>
-    requires objects { IsNumbering (object_types task.now.objects) objects.now.numbers.items objects.now.firsts.items }
+    requires objects { IsNumbering (object_types task.now.objects) objects.now.numbers.items
+        objects.now.firsts.items }
     requires types { All (λ t. t < length task.now.types) types.now }
     ensures { IfOk result (λ v. v.items ≡ objects_below task.now types.now (length task.now.objects)) }
 {
@@ -155,8 +184,8 @@ fn add_object(flat: &mut Vec<u32>, object: u32, has_type: bool) -> Result<(), Al
     Ok(())
 }
 
-/// Whether each of some objects has one of the types: one for all objects that were declared with the same types, since
-/// an answer takes a search through the parents of types.
+/// Whether each of some objects has one of the types: one for all objects that were declared with the same
+/// types, since an answer takes a search through the parents of types.
 fn first_answers(
     alloc: Global,
     task: &Task,

@@ -1,6 +1,11 @@
-//! Laws about the definitions of this crate. Each function does nothing and takes no memory; its contract is the law.
+//! Laws about the definitions of this crate. Each function does nothing and takes no memory; its contract is
+//! the law.
 
-ghost use Rattle.pl_normal.specs.Laws.{ChainsAreTested, ClassesAreLeast, EarRemovalsAreRemovals, RemovalsAreOne, AnswersAreApplicable, StepsAreAnswers, StepsAreAssignments, StepsCompareByClasses, ParametersAreOrdered, StepOrderIsTotal, StepsTieNowhere, AllStepsAreSteps, AllStepsAscend, ApplicableStepsAreListed, ApplicableStepsAscend};
+ghost use Rattle.pl_normal.specs.Laws.{ChainsAreTested, ClassesAreLeast, EarRemovalsAreRemovals};
+ghost use Rattle.pl_normal.specs.Laws.{RemovalsAreOne, AnswersAreApplicable, StepsAreAnswers};
+ghost use Rattle.pl_normal.specs.Laws.{StepsAreAssignments, StepsCompareByClasses, ParametersAreOrdered};
+ghost use Rattle.pl_normal.specs.Laws.{StepOrderIsTotal, StepsTieNowhere, AllStepsAreSteps, AllStepsAscend};
+ghost use Rattle.pl_normal.specs.Laws.{ApplicableStepsAreListed, ApplicableStepsAscend};
 
 use pl_task::Task;
 
@@ -18,23 +23,23 @@ pub fn ears_are_removed_in_one_way()
 
 /// The query of a schema says what applicability says.
 ///
-/// In a state that keeps the atoms over static predicates, an assignment meets all edges, guards and filters exactly
-/// where the step under it is applicable, and each applicable step is the step under an assignment.
+/// In a state that keeps the atoms over static predicates, an assignment meets all edges, guards and filters
+/// exactly where the step under it is applicable, and each applicable step is the step under an assignment.
 pub fn answers_are_applicable(_task: &Task)
     ensures answers { AnswersAreApplicable _task.now }
     ensures steps { StepsAreAnswers _task.now }
 {}
 
-/// Steps of a schema under assignments are one exactly where the assignments agree on the unfixed classes, and compare as
-/// the objects of these classes do in class order.
+/// Steps of a schema under assignments are one exactly where the assignments agree on the unfixed classes,
+/// and compare as the objects of these classes do in class order.
 pub fn steps_follow_the_classes(_task: &Task)
     ensures one { StepsAreAssignments _task.now }
     ensures order { StepsCompareByClasses _task.now }
     ensures parameters { ParametersAreOrdered _task.now }
 {}
 
-/// Steps are totally ordered; the list of all steps has exactly the steps, and that of the applicable ones exactly those,
-/// each once and ascending.
+/// Steps are totally ordered; the list of all steps has exactly the steps, and that of the applicable ones
+/// exactly those, each once and ascending.
 pub fn steps_are_listed_in_order(_task: &Task)
     ensures total { StepOrderIsTotal _task.now }
     ensures ties { StepsTieNowhere _task.now }

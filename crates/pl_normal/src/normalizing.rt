@@ -1,16 +1,26 @@
 //! The normal forms of all schemas of a task, with what no state changes.
 
-ghost use Rattle.std.specs.Prelude.{◌≡◌, ◌<◌, ◌^◌, length, map, slice_index, slice_get, Some, All, IfOk, IfSome, IfNone, true, false};
+ghost use Rattle.std.specs.Prelude.{◌≡◌, ◌≤◌, ◌<◌, ◌+◌, ◌*◌, ◌^◌, ◌↔◌, ℕ, List, [], length, map, slice_index};
+ghost use Rattle.std.specs.Prelude.{slice_get};
+ghost use Rattle.std.specs.Prelude.{Some, All, Contains, IsTrue, IfOk, IfSome, IfNone, true, false};
 ghost use Rattle.pl_rows.specs.Rows.{row_cmp};
 ghost use Rattle.pl_task.specs.declared.data.Schema.{Schema as SchemaOf};
 ghost use Rattle.pl_task.specs.States.{IsStep};
 ghost use Rattle.pl_task.specs.WellFormed.{IsSchemaOf, is_fluent};
-ghost use Rattle.pl_normal.specs.Edges.{sets_of};
+ghost use Rattle.pl_task.specs.declared.data.PredicateDef.{PredicateDef as PredicateOf};
+ghost use Rattle.pl_hyper.specs.JoinTree.{IsAcyclic};
+ghost use Rattle.pl_reduce.specs.Passes.{total_rows};
+ghost use Rattle.pl_reduce.specs.Recipes.{AreGiven, relations_with};
+ghost use Rattle.pl_normal.specs.Edges.{edges_of, sets_of};
+ghost use Rattle.pl_normal.specs.Filters.{local_of};
+ghost use Rattle.pl_normal.specs.Measures.{relation_rows};
+ghost use Rattle.pl_normal.specs.Recipes.{AreNodesAt, IsRecipeFor};
+ghost use Rattle.pl_normal.specs.StateTables.{AreTables, HasObjectRows, state_of_tables};
 ghost use Rattle.pl_normal.specs.EarRemoval.{ear_removal};
 ghost use Rattle.pl_normal.specs.NormalForm.{IsNormalForm};
 ghost use Rattle.pl_normal.specs.StepOrder.{step_cmp, read_in};
 ghost use Rattle.pl_normal.specs.Guards.{types_at};
-ghost use Rattle.pl_normal.specs.Tables.{AreStatics, IsAtomTable, IsTypeTable};
+ghost use Rattle.pl_normal.specs.Tables.{AreStatics, IsAtomTable, IsTypeTable, row_atom};
 ghost use Rattle.pl_normal.specs.NormalTasks.{AreNormalForms};
 
 use crate::classes::{class_slots, fixings, parameter_classes, slot_objects};
@@ -18,17 +28,24 @@ use crate::edges::{edges, sets_of};
 use crate::filters::filters;
 use crate::form::{Edge, NormalSchema};
 use crate::guards::guards;
-use crate::kinds::{KindTables, kind_tables};
+use crate::kinds::{KindTables, kind_tables, type_table_at};
 use crate::order::parameter_order;
+use crate::query::{Query, true_atoms};
+use crate::recipes::{given_for, recipes};
 use crate::tables::static_tables;
 use pl_hyper::{EarPlan, ears};
+use pl_join::Relation;
+use pl_reduce::Recipe;
 use pl_rows::Table;
+use pl_steps::Steps;
 use pl_task::{List, Schema, StepRef, Task};
 use std::alloc::{AllocError, Global};
 use std::cmp::Ordering;
 use std::marker::Model;
+use std::sync::ledger::Ledger;
 
-/// A task with the normal form of each schema, the table of each static predicate, and those of the types of parameters.
+/// A task with the normal form of each schema, the table of each static predicate, and those of the types of
+/// parameters.
 ///
 /// Contracts see it as the task: it has nothing that the task leaves open.
 #[derive(Drop)]
@@ -37,6 +54,7 @@ pub struct NormalTask<'t> {
     schemas: Vec<NormalSchema>,
     statics: Vec<Option<Table>>,
     kinds: KindTables,
+    recipes: Vec<Option<Recipe>>,
 }
 
 impl<'t> Model for NormalTask<'t> {
@@ -48,7 +66,7 @@ impl<'t> Model for NormalTask<'t> {
     ghost view = { λ n. n.task.now };
 
     ghost invariant = { λ n. IsNormalTask n.task.now n.schemas.items n.statics.items
-        n.kinds.starts.items n.kinds.numbers.items n.kinds.tables.items };
+        n.kinds.starts.items n.kinds.numbers.items n.kinds.tables.items n.recipes.items };
 }
 
 /// The normal forms of all schemas of a task. The only error is want of memory.
@@ -58,11 +76,13 @@ pub fn normal<'t>(alloc: Global, task: &'t Task) -> Result<NormalTask<'t>, Alloc
     let statics = static_tables(alloc, task)?;
     let kinds = kind_tables(alloc, task)?;
     let schemas = normal_schemas(alloc, task, &statics)?;
+    let recipes = recipes(alloc, task, &statics, &kinds, &schemas)?;
     Ok(NormalTask {
         task,
         schemas,
         statics,
         kinds,
+        recipes,
     })
 }
 
@@ -141,7 +161,8 @@ impl<'t> NormalTask<'t> {
     /// The normal form of schema `i`.
     pub fn schema(&self, i: u32) -> &NormalSchema
         requires { i < length self.now.schemas }
-        ensures { (s : SchemaOf) → slice_get self.now.schemas i ≡ Some s → IsNormalForm self.now s result.now }
+        ensures { (s : SchemaOf) → slice_get self.now.schemas i ≡ Some s
+            → IsNormalForm self.now s result.now }
     {
         &self.schemas[i as usize]
     }
@@ -156,20 +177,93 @@ impl<'t> NormalTask<'t> {
         self.statics[predicate as usize].as_ref()
     }
 
-    /// The table of the objects that have at least one of the parameter's types. Parameters with the same types share one.
+    /// The table of the objects that have at least one of the parameter's types. Parameters with the same
+    /// types share one.
     pub fn type_table(&self, schema: u32, parameter: u32) -> &Table
         requires schema { schema < length self.now.schemas }
-        requires parameter { (s : SchemaOf) → slice_get self.now.schemas schema ≡ Some s → parameter < length s.parameters }
+        requires parameter { (s : SchemaOf) → slice_get self.now.schemas schema ≡ Some s
+            → parameter < length s.parameters }
         ensures { (s : SchemaOf) → slice_get self.now.schemas schema ≡ Some s →
             IsTypeTable self.now (types_at s.parameters parameter) result.now }
     {
-        let kinds = &self.kinds;
-        let first = kinds.starts[schema as usize];
-        let number = kinds.numbers[first + parameter as usize];
-        &kinds.tables[number]
+        type_table_at(self.task, &self.kinds, schema, parameter)
     }
 
-    /// How two steps of the task are ordered: by their schemas, and then by their objects in the schema's parameter order.
+    /// The table of the true atoms of a predicate in the state that the tables stand for: its own, if it is
+    /// static, or that of the state.
+    pub fn predicate_table<'a>(&'a self, predicate: u32, tables: &'a [Option<Table>]) -> &'a Table
+        requires predicate { predicate < length self.now.predicates }
+        requires tables { AreTables self.now tables.now }
+        ensures arity { (d : PredicateOf) → slice_get self.now.predicates predicate ≡ Some d
+            → result.now.arity ≡ d.arity }
+        ensures rows { (row : List ℕ) → Contains result.now.rows row
+            ↔ IsTrue (state_of_tables self.now tables.now (row_atom predicate row)) }
+        ensures objects { HasObjectRows (length self.now.objects) result.now }
+    {
+        true_atoms(self.task, &self.statics, tables, predicate)
+    }
+
+    /// The recipe of the join of schema `schema`, made once a task; none where the schema has no edge.
+    ///
+    /// It has the relations of the nodes that no state changes.
+    pub fn recipe(&self, schema: u32) -> Option<&Recipe>
+        requires { schema < length self.now.schemas }
+        ensures some { (s : SchemaOf) → slice_get self.now.schemas schema ≡ Some s →
+            IfSome result (λ r. IsRecipeFor self.now s r.now) }
+        ensures edges { (s : SchemaOf) → slice_get self.now.schemas schema ≡ Some s →
+            IfSome result (λ r. 0 < length (edges_of s)) }
+        ensures none { (s : SchemaOf) → slice_get self.now.schemas schema ≡ Some s →
+            IfNone result (edges_of s ≡ []) }
+    {
+        self.recipes[schema as usize].as_ref()
+    }
+
+    /// The relations of the nodes that a recipe leaves open, in the state that the tables stand for.
+    ///
+    /// Of an acyclic schema it takes a probe for each row of the edges' sources, and for each local filter
+    /// two more. The only error is want of memory.
+    pub fn given_relations<L: Ledger>(
+        &self,
+        alloc: Global,
+        schema: u32,
+        recipe: &Recipe,
+        tables: &[Option<Table>],
+        steps: &mut Steps<L>,
+    ) -> Result<Vec<Option<Relation>>, AllocError>
+        requires schema { schema < length self.now.schemas }
+        requires recipe { (s : SchemaOf) → slice_get self.now.schemas schema ≡ Some s
+            → IsRecipeFor self.now s recipe.now }
+        requires edges { (s : SchemaOf) → slice_get self.now.schemas schema ≡ Some s
+            → 0 < length (edges_of s) }
+        requires tables { AreTables self.now tables.now }
+        ensures given { IfOk result (λ v. AreGiven recipe.now v.items) }
+        ensures nodes { (s : SchemaOf) → slice_get self.now.schemas schema ≡ Some s →
+            IfOk result (λ v. AreNodesAt self.now s (state_of_tables self.now tables.now)
+            (relations_with recipe.now.fixed v.items)) }
+        ensures few { (s : SchemaOf) → slice_get self.now.schemas schema ≡ Some s →
+            IfOk result (λ v. IsAcyclic (sets_of (edges_of s))
+            → total_rows (relations_with recipe.now.fixed v.items)
+            ≤ relation_rows self.now (state_of_tables self.now tables.now) s) }
+        ensures cost { (s : SchemaOf) → slice_get self.now.schemas schema ≡ Some s →
+            IfOk result (λ _. IsAcyclic (sets_of (edges_of s))
+            → steps.new ≤ steps.old
+            + (1 + 2 * length (local_of s)) * relation_rows self.now
+            (state_of_tables self.now tables.now) s) }
+        ensures rise { steps.old ≤ steps.new }
+    {
+        let query = Query {
+            task: self.task,
+            statics: self.statics.as_slice(),
+            kinds: &self.kinds,
+            tables,
+            number: schema,
+            schema: &self.task.schemas.as_slice()[schema as usize],
+        };
+        given_for(alloc, &query, self.schema(schema), recipe, steps)
+    }
+
+    /// How two steps of the task are ordered: by their schemas, and then by their objects in the schema's
+    /// parameter order.
     pub fn step_cmp(&self, a: StepRef<'_>, b: StepRef<'_>) -> Ordering
         requires a { IsStep self.now (record { schema = a.schema; args = a.args.now }) }
         requires b { IsStep self.now (record { schema = b.schema; args = b.args.now }) }

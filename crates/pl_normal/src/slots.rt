@@ -2,7 +2,8 @@
 
 ghost use Rattle.std.specs.Prelude.{◌≡◌, length, map, All, IfOk};
 ghost use Rattle.pl_join.specs.Relation.{IsSlotBelow};
-ghost use Rattle.pl_normal.specs.Slots.{slot_of, slots_of, is_fixed, are_fixed, fixed_value, class_bit, class_set};
+ghost use Rattle.pl_normal.specs.Slots.{slot_of, slots_of, is_fixed, are_fixed, fixed_value, class_bit};
+ghost use Rattle.pl_normal.specs.Slots.{class_set};
 ghost use Rattle.pl_normal.specs.Scope.{IsTermBelow};
 
 use pl_join::Slot;

@@ -1,17 +1,16 @@
 //! What no state changes: the tables of static predicates.
 
-ghost use Rattle.std.specs.Prelude.{◌≡◌, ◌+◌, ◌<◌, ◌↔◌, [], Some, true, length, take, Contains, IfOk, OnOk, IsTrue, slice_get};
+ghost use Rattle.std.specs.Prelude.{◌≡◌, ◌+◌, ◌<◌, ◌↔◌, [], Some, true, length, take, Contains, IfOk, OnOk};
+ghost use Rattle.std.specs.Prelude.{IsTrue, slice_get};
 ghost use Rattle.pl_task.specs.declared.data.PredicateDef.{PredicateDef as PredicateOf};
+ghost use Rattle.pl_normal.specs.StateTables.{AreTables, HasTable};
 ghost use Rattle.pl_normal.specs.Tables.{IsStatic, AreStatics, AddsRow, AreGathered, gathered};
 ghost use Rattle.pl_rows.specs.Rows.{Rows as RowsOf};
 ghost use Rattle.std.proofs.Common.{get_or};
 
-use pl_rows::{Table, TableBuilder};
-use pl_steps::Steps;
+use pl_rows::{Range, Table, TableBuilder, bisect};
 use pl_task::{PredicateDef, Task};
 use std::alloc::{AllocError, Global};
-use std::marker::Brand;
-use std::sync::ledger::{Blank, Ledger};
 
 /// For each predicate the table of its initial atoms, if it is static. It goes over the initial atoms once.
 pub fn static_tables(alloc: Global, task: &Task) -> Result<Vec<Option<Table>>, AllocError>
@@ -95,7 +94,8 @@ fn static_table(
     builder: TableBuilder,
 ) -> Result<Option<Table>, AllocError>
     requires within { predicate < length task.now.predicates }
-    requires rows { (d : PredicateOf) → slice_get task.now.predicates predicate ≡ Some d → d.is_static ≡ true →
+    requires rows { (d : PredicateOf) → slice_get task.now.predicates predicate ≡ Some d
+        → d.is_static ≡ true →
         builder ≡ gathered d predicate task.now.init }
     ensures { IfOk result (IsStatic task.now predicate) }
 {
@@ -106,21 +106,36 @@ fn static_table(
     Ok(Some(builder.into_table(alloc)?))
 }
 
+/// For each fluent predicate the table without a row: the state in which no fluent atom is true.
+pub fn empty_tables(alloc: Global, task: &Task) -> Result<Vec<Option<Table>>, AllocError>
+    ensures { IfOk result (λ v. AreTables task.now v.items) }
+{
+    let predicates = task.predicates.as_slice();
+    let mut tables = Vec::with_capacity(alloc, predicates.len())?;
+    for p in 0..predicates.len() {
+        tables.push(empty_table(alloc, task, p))?;
+    }
+    Ok(tables)
+}
+
+/// The table without a row for a fluent predicate, and none for a static one.
+fn empty_table(alloc: Global, task: &Task, predicate: usize) -> Option<Table>
+    requires { predicate < length task.now.predicates }
+    ensures { HasTable task.now predicate result }
+{
+    let definition = &task.predicates.as_slice()[predicate];
+    if definition.is_static {
+        return None;
+    }
+    Some(Table::from_ascending(definition.arity, 0, Vec::new(alloc)))
+}
+
 /// Whether the table has the row. What is asked once a task is not counted.
 pub fn has_row(table: &Table, row: &[u32]) -> bool
     requires { length row.now ≡ table.now.arity }
     ensures { IsTrue result ↔ Contains table.now.rows row.now }
 {
-    counts_row::<Brand>(table, row, Blank::new(1))
-}
-
-fn counts_row<L: Ledger>(table: &Table, row: &[u32], blank: Blank) -> bool
-    requires row { length row.now ≡ table.now.arity }
-    requires name { blank.name ≡ L.name }
-    requires parts { blank.parts ≡ L.parts }
-    requires some { 0 < blank.parts }
-    ensures { IsTrue result ↔ Contains table.now.rows row.now }
-{
-    let mut steps: Steps<L> = Steps::new(blank);
-    table.has(row, &mut steps)
+    let count = table.len();
+    let flat = table.part(Range { from: 0, to: count });
+    bisect::has_row(flat, table.arity() as usize, count, row)
 }

@@ -403,7 +403,8 @@ fn are_at(local: &[Placed], edges: &[u32]) -> bool {
     true
 }
 
-/// Whether the slots, the filters, the core of the edges and the order of the parameters are those of the case.
+/// Whether the slots, the filters, the core of the edges and the order of the parameters are those of the
+/// case.
 fn is_ordered(
     alloc: Global,
     classes: &[u32],

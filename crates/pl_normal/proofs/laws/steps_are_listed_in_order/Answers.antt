@@ -1,4 +1,5 @@
-use Rattle.pl_normal.proofs.Listing.{step_order_total, steps_tie_nowhere, listed_is_step, step_is_listed, all_steps_ascend, applicable_listed, applicable_ascend}
+use Rattle.pl_normal.proofs.Listing.{step_order_total, steps_tie_nowhere, listed_is_step, step_is_listed}
+use Rattle.pl_normal.proofs.Listing.{all_steps_ascend, applicable_listed, applicable_ascend}
 use Rattle.pl_normal.proofs.laws.steps_are_listed_in_order.Goals as goal
 
 pub returns : goal.returns

@@ -7,5 +7,6 @@ abbrev pub invariant-loop-builder : goal.invariant-loop-builder
 invariant-loop-builder l = record {
   all : l.yielded ++ l.builder-iterator.rest.items ≡ l.fn.builders.items;
   many : length l.tables.items ≡ length l.yielded;
-  each : (q : ℕ) (d : Option Rows) → q < length l.tables.items → IsStatic l.task q (get_or l.tables.items q d);
+  each : (q : ℕ) (d : Option Rows) → q < length l.tables.items
+      → IsStatic l.task q (get_or l.tables.items q d);
 }

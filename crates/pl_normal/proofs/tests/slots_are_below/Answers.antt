@@ -5,7 +5,10 @@ use Rattle.pl_join.specs.Relation.{IsSlotBelow}
 use Rattle.pl_normal.proofs.tests.slots_are_below.Goals as goal
 
 pub loop-slot-preserved : goal.loop-slot-preserved
-loop-slot-preserved c = All-more (IsSlotBelow 64) c.args.slots.now c.loop-slot.slot-index (Fixed 0) c.loop-slot-test.true c.loop-slot.invariant (c.slot_is_below.ensures c.if-not-slot_is_below.false)
+loop-slot-preserved c = All-more (IsSlotBelow 64) c.args.slots.now c.loop-slot.slot-index
+    (Fixed 0) c.loop-slot-test.true c.loop-slot.invariant
+    (c.slot_is_below.ensures c.if-not-slot_is_below.false)
 
 pub returns : goal.returns
-returns c = λ _. All-same (IsSlotBelow 64) c.args.slots.now _ (sym (take_all c.loop-slot.slot-index c.args.slots.now c.loop-slot-test.false)) c.loop-slot.invariant
+returns c = λ _. All-same (IsSlotBelow 64) c.args.slots.now _
+    (sym (take_all c.loop-slot.slot-index c.args.slots.now c.loop-slot-test.false)) c.loop-slot.invariant

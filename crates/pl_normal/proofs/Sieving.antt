@@ -1,0 +1,87 @@
+-- How many rows the relation of an edge has, and how many probes it takes.
+use Rattle.std.proofs.Common.{◌≡◌, ℕ, ◌+◌, ◌*◌, ◌<◌, ◌≤◌, ◌↔◌, IsTrue, List, length, get_or, ◌∙◌, ap, subst}
+use Rattle.std.proofs.Common.{arith, Contains}
+use Rattle.std.specs.List.{list_all}
+use Rattle.std.proofs.lemmas.List.Elements.{Contains-get_or}
+use Rattle.pl_rows.specs.Rows.{Rows}
+use Rattle.pl_task.specs.declared.data.Schema.{Schema}
+use Rattle.pl_task.specs.declared.task.Task.{Task}
+use Rattle.pl_task.specs.States.{State}
+use Rattle.pl_join.specs.Relation.{ClassRows, IsRelation}
+use Rattle.pl_normal.specs.declared.form.Edge.{Edge}
+use Rattle.pl_normal.specs.declared.form.Placed.{Placed}
+use Rattle.pl_normal.specs.Edges.{edges_of}
+use Rattle.pl_normal.specs.Measures.{edge_rows}
+use Rattle.pl_normal.specs.Query.{is_in_source, meets_edge}
+use Rattle.pl_normal.specs.StateTables.{HasObjectRows}
+use Rattle.pl_normal.specs.Queries.{IsEdgeOf, edge_at, lets_pass}
+use Rattle.pl_normal.proofs.Edging.{IsSieved, and_split}
+use Rattle.pl_normal.proofs.Few.{AreEdgeRows, rows_within, table_few, relation_few}
+use Rattle.pl_normal.proofs.Forms.{SchemaOf, edge_of, no_edge}
+use Rattle.pl_normal.proofs.Relating.{edge_here}
+
+-- ---- the relation of an edge as it is made
+
+module _ (task : Task) (schema : Schema) (s : State) where
+  the_edge : (edges given : List Edge) (e : ℕ) (edge : Edge) → edges ≡ edges_of schema → given ≡ edges →
+      e < length edges → edge ≡ get_or given e edge → edge ≡ edge_at (edges_of schema) e
+  the_edge edges given e edge same read low at = edge_here edges given e edge read low at ∙ ap
+      (λ xs. edge_at xs e) same
+
+  pub source_within : (edges given : List Edge) (e : ℕ) (edge : Edge) (table : Rows) →
+      edges ≡ edges_of schema → given ≡ edges → e < length edges → edge ≡ get_or given e edge →
+      HasObjectRows (length task.objects) table →
+      ((row : List ℕ) → Contains table.rows row ↔ IsTrue (is_in_source task schema s edge.source row)) →
+      AreEdgeRows task schema s (edge_at (edges_of schema) e)
+  source_within edges given e edge table same read low at is rows =
+      subst (AreEdgeRows task schema s) (the_edge edges given e edge same read low at)
+      (rows_within task schema s edge table is rows)
+
+  pub source_few : (edges given : List Edge) (e : ℕ) (edge : Edge) (table : Rows) →
+      edges ≡ edges_of schema → given ≡ edges → e < length edges → edge ≡ get_or given e edge →
+      HasObjectRows (length task.objects) table →
+      ((row : List ℕ) → Contains table.rows row ↔ IsTrue (is_in_source task schema s edge.source row)) →
+      length edge.slots ≡ table.arity → length table.rows ≤ edge_rows task schema s
+      (edge_at (edges_of schema) e)
+  source_few edges given e edge table same read low at is rows wide =
+      subst (λ (x : Edge). length table.rows ≤ edge_rows task schema s x)
+      (the_edge edges given e edge same read low at) (table_few task schema s edge table is rows wide)
+
+  pub sieved_few : (edges : List Edge) (e : ℕ) (passed : List Placed) (relation : ClassRows) →
+      SchemaOf task schema → edges ≡ edges_of schema → e < length edges →
+      AreEdgeRows task schema s (edge_at (edges_of schema) e) → IsRelation relation →
+      IsSieved task schema s (edge_at edges e) e passed relation →
+      length relation.rows ≤ edge_rows task schema s (edge_at (edges_of schema) e)
+  sieved_few edges e passed relation of same low within is sieved =
+      let here : IsSieved task schema s (edge_at (edges_of schema) e) e passed relation =
+      subst (λ xs. IsSieved task schema s (edge_at xs e) e passed relation) same sieved in
+      let edge_is : IsEdgeOf task schema (edge_at (edges_of schema) e) =
+      edge_of task schema (edge_at (edges_of schema) e) of
+      (Contains-get_or (edges_of schema) e no_edge (subst (λ xs. e < length xs) same low)) in
+      relation_few task schema s (edge_at (edges_of schema) e) relation is
+      (λ c h. (edge_is.set c).0 ((here.classes c).0 h))
+      (λ f h. ((and_split (meets_edge task schema s f (edge_at (edges_of schema) e))
+      (list_all (lets_pass s f e) passed)).0 ((here.rows f).0 h)).0) within
+
+times_more : (i r : ℕ) → (i + 1) * r ≡ i * r + r
+times_more i r = grind arith
+
+-- a filter more
+pub filter_taken : (first before after final i rows most : ℕ) → before ≤ first + i * (2 * most) →
+    after ≤ before + 2 * rows → rows ≤ most → final ≡ after → final ≤ first + (i + 1) * (2 * most)
+filter_taken first before after final i rows most old cost few same = let more = times_more i (2 * most) in
+    omega (arith, old, cost, few, same, more)
+
+pub filter_passed : (first before final i most : ℕ) → before ≤ first + i * (2 * most) → final ≡ before →
+    final ≤ first + (i + 1) * (2 * most)
+filter_passed first before final i most old same = let more = times_more i (2 * most) in
+    omega (arith, old, same, more)
+
+fewer_times : (n m r : ℕ) → n ≤ m → n * r ≤ m * r
+fewer_times n m r h = grind arith
+
+-- the selection and all filters
+pub edge_taken : (start first after i many local rows most : ℕ) → first ≤ start + rows → rows ≤ most →
+    after ≤ first + i * (2 * most) → i ≤ many → many ≡ local → after ≤ start + (most + local * (2 * most))
+edge_taken start first after i many local rows most selected few filters low same = let all =
+    fewer_times i local (2 * most) (omega (arith, low, same)) in omega (arith, selected, few, filters, all)

@@ -1,0 +1,102 @@
+//! The relations of the edges of a schema's query in a state.
+
+ghost use Rattle.std.specs.Prelude.{◌≡◌, ◌≤◌, ◌<◌, ◌+◌, ◌*◌, ◌↔◌, All, length, IfOk, IsTrue};
+ghost use Rattle.std.specs.List.{sum_by};
+ghost use Rattle.pl_join.specs.Relation.{Assignment, Holds, IsRelation};
+ghost use Rattle.pl_normal.specs.Asked.{IsQuery, task_in, schema_in, state_asked, source_rows};
+ghost use Rattle.pl_normal.specs.NormalForm.{IsNormalForm};
+ghost use Rattle.pl_normal.specs.Queries.{IsRelationAt, AreRelationsAt, IsSieveOf, IsSieveOver};
+ghost use Rattle.pl_normal.specs.Queries.{sieved_probes};
+ghost use Rattle.pl_normal.specs.Query.{meets_sieve};
+
+use crate::form::{NormalSchema, Sieve};
+use crate::query::{Query, source_table, true_atoms};
+use pl_join::{Relation, filter_absent, filter_unequal, select};
+use pl_steps::Steps;
+use std::alloc::{AllocError, Global};
+use std::sync::ledger::Ledger;
+
+/// The relations of some edges, in their order.
+pub fn edge_relations<L: Ledger>(
+    alloc: Global,
+    query: &Query<'_>,
+    form: &NormalSchema,
+    numbers: &[u32],
+    steps: &mut Steps<L>,
+) -> Result<Vec<Relation>, AllocError>
+    requires query { IsQuery query.now }
+    requires form { IsNormalForm (task_in query.now) (schema_in query.now) form.now }
+    requires numbers { All (λ e. e < length form.now.edges) numbers.now }
+    ensures relations { IfOk result (λ v. AreRelationsAt (task_in query.now) (schema_in query.now)
+        (state_asked query.now) numbers.now v.items) }
+    ensures rise { steps.old ≤ steps.new }
+{
+    let mut relations = Vec::with_capacity(alloc, numbers.len())?;
+    for number in numbers {
+        relations.push(edge_relation(alloc, query, form, *number, steps)?)?;
+    }
+    Ok(relations)
+}
+
+/// The relation of an edge: over its classes, the rows of its source that its slots and its local filters let
+/// pass.
+///
+/// It takes a probe for each row of the source, and for each local filter of the schema at most two more.
+pub fn edge_relation<L: Ledger>(
+    alloc: Global,
+    query: &Query<'_>,
+    form: &NormalSchema,
+    number: u32,
+    steps: &mut Steps<L>,
+) -> Result<Relation, AllocError>
+    requires query { IsQuery query.now }
+    requires form { IsNormalForm (task_in query.now) (schema_in query.now) form.now }
+    requires number { number < length form.now.edges }
+    ensures relation { IfOk result
+        (IsRelationAt (task_in query.now) (schema_in query.now) (state_asked query.now) number) }
+    ensures cost { IfOk result
+        (λ _. steps.new ≤ steps.old + sieved_probes form.now (source_rows query.now number)) }
+    ensures rise { steps.old ≤ steps.new }
+{
+    let edge = &form.edges.as_slice()[number as usize];
+    let table = source_table(query, edge.source);
+    let mut relation = select(alloc, table, edge.slots.as_slice(), steps)?;
+    let local = form.local.as_slice();
+    for placed in local {
+        if placed.edge == number {
+            relation = sieved(alloc, query, &relation, &placed.sieve, steps)?;
+        }
+    }
+    // That it is a relation is a clause of its parts.
+    let _ = relation.classes();
+    Ok(relation)
+}
+
+/// The rows of a relation that a filter over its classes lets pass. It takes at most two probes for each row.
+fn sieved<L: Ledger>(
+    alloc: Global,
+    query: &Query<'_>,
+    relation: &Relation,
+    sieve: &Sieve,
+    steps: &mut Steps<L>,
+) -> Result<Relation, AllocError>
+    requires query { IsQuery query.now }
+    requires sieve { IsSieveOf (task_in query.now) sieve.now }
+    requires over { IsSieveOver relation.now.classes sieve.now }
+    ensures classes { IfOk result (λ r. r.classes ≡ relation.now.classes) }
+    ensures rows { IfOk result (λ r. (f : Assignment) → Holds r f
+        ↔ (Holds relation.now f × IsTrue (meets_sieve (state_asked query.now) f sieve.now))) }
+    ensures whole { IsRelation relation.now }
+    ensures cost { steps.new ≤ steps.old + 2 * length relation.now.rows }
+    ensures rise { steps.old ≤ steps.new }
+{
+    // That it is a relation is a clause of its parts.
+    let _ = relation.classes();
+    match sieve {
+        Sieve::NotEqual(a, b) => filter_unequal(alloc, relation, *a, *b, steps),
+        Sieve::Absent(predicate, slots) => {
+            let table = true_atoms(query.task, query.statics, query.tables, *predicate);
+            filter_absent(alloc, relation, table, slots.as_slice(), steps)
+        }
+    }
+}
