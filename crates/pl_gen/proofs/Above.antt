@@ -1,5 +1,6 @@
 -- The applicable steps above a step: schema by schema, and within its schema by the rows.
-use Rattle.std.proofs.Common.{◌≡◌, ℕ, ◌+◌, ◌-◌, ◌<◌, ◌≤◌, suc, Bool, true, false, not, cond, List, [], ◌∷◌, ◌++◌, length, map, filter, Some, slice_get, refl, sym, ◌∙◌, ap, arith, Contains}
+use Rattle.std.proofs.Common.{◌≡◌, ℕ, ◌+◌, ◌-◌, ◌<◌, ◌≤◌, suc, Bool, true, false, not, cond, List, [], ◌∷◌}
+use Rattle.std.proofs.Common.{◌++◌, length, map, filter, Some, slice_get, refl, sym, ◌∙◌, ap, arith, Contains}
 use Rattle.std.specs.Prelude.{slice_index}
 use Rattle.std.specs.List.{flat_map, range_with_len}
 use Rattle.std.specs.declared.cmp.Ordering.{Ordering}
@@ -25,7 +26,8 @@ use Rattle.pl_normal.proofs.Listing.{row_rest, row_less, order_at, ties_same, fr
 use Rattle.pl_cursor.specs.Cursor.{is_past}
 use Rattle.pl_gen.specs.Walks.{is_above}
 use Rattle.pl_gen.specs.SchemaSteps.{applicable_of, step_at, class_key}
-use Rattle.pl_gen.proofs.Blocks.{filter_agree, filter_none, filter_whole, filter-map, filter-flat_map, blocks_agree, blocks_none, range_split, range_from}
+use Rattle.pl_gen.proofs.Blocks.{filter_agree, filter_none, filter_whole, filter-map, filter-flat_map}
+use Rattle.pl_gen.proofs.Blocks.{blocks_agree, blocks_none, range_split, range_from}
 use Rattle.pl_gen.proofs.SchemaRows.{steps_come_by_schemas, block_number, assigned_row}
 
 -- ---- the steps of other schemas

@@ -1,37 +1,36 @@
--- The tables that a query is asked of have the state's true atoms.
-use Rattle.std.proofs.Common.{◌≡◌, ℕ, ◌<◌, ◌↔◌, zero, suc, Bool, true, false, not, IsTrue, List, [], ◌∷◌, length, Option, Some, None, All, inl, inr, slice_get, refl, sym, ◌∙◌, ap, subst, arith, Contains}
-use Rattle.std.proofs.lemmas.List.Elements.{All-contains}
+-- The tables that a query is asked of stand for its state.
+use Rattle.std.proofs.Common.{◌≡◌, ℕ, ◌<◌, ◌↔◌, IsTrue, Contains, Bool, true, false, not, List, length}
+use Rattle.std.proofs.Common.{Option, Some, None, slice_get, get_or, refl, sym, ◌∙◌, ap, subst}
+use Rattle.std.proofs.Math.Path.{fun_ext}
+use Rattle.std.proofs.lemmas.Option.{get_or_from_slice_get, slice_get_within}
 use Rattle.pl_rows.specs.Rows.{Rows, AreRows}
-use Rattle.pl_rows.proofs.Canonical.{Contains-nil, Contains-cons_cases}
-use Rattle.pl_normal.proofs.KindLemmas.{typed_within}
+use Rattle.std.proofs.lemmas.List.Elements.{All-contains}
+use Rattle.std.specs.List.{list_any}
+use Rattle.std.specs.Prelude.{bytes_eq, All}
+use Rattle.pl_task.specs.declared.data.Atom.{Atom}
 use Rattle.pl_task.specs.declared.data.PredicateDef.{PredicateDef}
 use Rattle.pl_task.specs.declared.data.Schema.{Schema}
 use Rattle.pl_task.specs.declared.task.Task.{Task}
 use Rattle.pl_task.specs.States.{State, initial}
-use Rattle.pl_task.specs.WellFormed.{is_fluent, IsAtomOf}
-use Rattle.pl_task.proofs.StateLemmas.{state_of-members}
-use Rattle.pl_normal.specs.declared.form.Source.TheVariants as source
-use Rattle.pl_normal.specs.Guards.{types_at}
-use Rattle.pl_normal.specs.Query.{KeepsStatic, is_in_source, is_of_kind}
-use Rattle.pl_normal.specs.Tables.{IsAtomTable, IsTypeTable, row_atom}
-use Rattle.pl_state.specs.Layout.{atom_of}
+use Rattle.pl_task.specs.WellFormed.{is_fluent}
+use Rattle.pl_normal.specs.Query.{KeepsStatic}
+use Rattle.pl_normal.specs.Tables.{row_atom}
 use Rattle.pl_state.specs.StateOf.{is_fluent_in, is_fluent_one, state_in}
 use Rattle.pl_state.specs.Tables.{IsTableOf, AreTablesOf}
-use Rattle.pl_state.proofs.StatesOfWords.{state_in-other}
-use Rattle.pl_gen.specs.Queries.{IsArityOf, HasObjectRows}
+use Rattle.pl_state.proofs.StatesOfWords.{among_rows, same_test, state_in-other}
+use Rattle.pl_normal.proofs.Asking.{definition}
+use Rattle.pl_normal.specs.StateTables.{AreTables, HasTable, is_true_by, state_of_tables}
 
-pub definition : (ds : List PredicateDef) (p : ℕ) → p < length ds → (d : PredicateDef) × (slice_get ds p ≡ Some d)
-definition [] p h = absurd (omega arith)
-definition (d ∷ ds) zero h = (d, refl)
-definition (d ∷ ds) (suc p) h = definition ds p (omega arith)
+not_both : (b : Bool) → not b ≡ true → b ≡ false
+not_both false h = refl
+not_both true h = absurd (cc)
 
-same_some : {X : Type 0} (x y : X) → Some x ≡ Some y → x ≡ y
-same_some x y e = cc
+not_neither : (b : Bool) → not b ≡ false → b ≡ true
+not_neither true h = refl
+not_neither false h = absurd (cc)
 
-no_some : {X : Type 0} (x : X) → None ≡ Some x → ⊥
-no_some x e = absurd (cc)
-
-static_one : (task : Task) (p : ℕ) (d : PredicateDef) → slice_get task.predicates p ≡ Some d → d.is_static ≡ true → is_fluent_in task p ≡ false
+static_one : (task : Task) (p : ℕ) (d : PredicateDef) → slice_get task.predicates p ≡ Some d →
+    d.is_static ≡ true → is_fluent_in task p ≡ false
 static_one task p d found is = ap is_fluent_one found ∙ ap not is
 
 not_fluent : (task : Task) (p : ℕ) → is_fluent task.schemas p ≡ false → is_fluent_in task p ≡ false
@@ -45,104 +44,115 @@ not_fluent task p h = by (slice_get task.predicates p) refl
 pub keeps_static : (task : Task) (words : List ℕ) → KeepsStatic task (state_in task words)
 keeps_static task words a h = state_in-other task words a (not_fluent task a.predicate h)
 
--- the table has the predicate's true atoms
-pub record IsTrueTable (task : Task) (words : List ℕ) (p : ℕ) (table : Rows) : Type 0 where
-  pub arity : (d : PredicateDef) → slice_get task.predicates p ≡ Some d → table.arity ≡ d.arity
-  pub rows : (row : List ℕ) → Contains table.rows row ↔ IsTrue (state_in task words (atom_of p row))
-  pub objects : HasObjectRows (length task.objects) table
+-- ---- the tables of a state
 
--- a fluent predicate
-pub fluent_table : (task : Task) (words : List ℕ) (tables : List (Option Rows)) (p : ℕ) (table : Rows) → AreTablesOf task (state_in task words) tables → p < length task.predicates →
-    slice_get tables p ≡ Some (Some table) → IsTrueTable task words p table
-fluent_table task words tables p table are low at = of_one (definition task.predicates p low)
+-- they are tables of the task's fluent predicates
+are_tables : (task : Task) (s : State) (tables : List (Option Rows)) → AreTablesOf task s tables →
+    AreTables task tables
+are_tables task s tables are = record { many = are.many; each = λ p d low. table_at p d low }
   where
-    same_table : (other : Rows) → slice_get tables p ≡ Some (Some other) → other ≡ table
-    same_table other here = same_some other table (same_some (Some other) (Some table) (sym here ∙ at))
+    of_table : (p : ℕ) (d : Option Rows) (x : PredicateDef) → slice_get task.predicates p ≡ Some x →
+        is_fluent task.schemas p ≡ true →
+        (table : Rows) × (slice_get tables p ≡ Some (Some table)) × IsTableOf (length task.objects) s p
+        x.arity table → HasTable task p (get_or tables p d)
+    of_table p d x found fluent (table, here, is) =
+        subst (HasTable task p) (sym (get_or_from_slice_get tables p (Some table) d here)) (
+          fluent,
+          record {
+            arity = λ y same. is.wide ∙ ap (λ (z : PredicateDef). z.arity) (let e : x ≡ y = cc in e);
+            objects = record {
+              rows = subst (λ n. AreRows n table.rows) (sym is.wide) is.true_rows.table;
+              within = λ row o c m. All-contains (λ n. n < length task.objects) row o
+                  (All-contains (λ (r : List ℕ). All (λ n. n < length task.objects) r) table.rows row
+                  is.true_rows.within c) m;
+            };
+          },
+        )
 
-    of_table : (d : PredicateDef) → slice_get task.predicates p ≡ Some d → (other : Rows) × (slice_get tables p ≡ Some (Some other)) × IsTableOf (length task.objects) (state_in task words) p d.arity other → IsTrueTable task words p table
-    of_table d found (other, here, is) =
-        subst (IsTrueTable task words p) (same_table other here) (record {
-          arity = λ e same. is.wide ∙ ap (λ (x : PredicateDef). x.arity) (same_some d e (sym found ∙ same));
-          rows = is.true_rows.members;
-          objects = record {
-            rows = subst (λ n. AreRows n other.rows) (sym is.wide) is.true_rows.table;
-            within = λ row x c m. All-contains (λ o. o < length task.objects) row x (All-contains (λ (r : List ℕ). All (λ o. o < length task.objects) r) other.rows row is.true_rows.within c) m;
-          };
-        })
+    by : (p : ℕ) (d : Option Rows) (x : PredicateDef) (b : Bool) → p < length task.predicates →
+        slice_get task.predicates p ≡ Some x → x.is_static ≡ b → HasTable task p (get_or tables p d)
+    by p d x true low found is =
+        subst (HasTable task p) (sym (get_or_from_slice_get tables p None d
+        ((are.each p x low found).static is)))
+        (not_both (is_fluent task.schemas p) (sym (task.predicates_ok.static p x found) ∙ is))
+    by p d x false low found is =
+        of_table p d x found (not_neither (is_fluent task.schemas p)
+        (sym (task.predicates_ok.static p x found) ∙ is)) ((are.each p x low found).fluent is)
 
-    by : (d : PredicateDef) (b : Bool) → slice_get task.predicates p ≡ Some d → d.is_static ≡ b → IsTrueTable task words p table
-    by d true found is = absurd (no_some table (same_some None (Some table) (sym ((are.each p d low found).static is) ∙ at)))
-    by d false found is = of_table d found ((are.each p d low found).fluent is)
+    table_at : (p : ℕ) (d : Option Rows) → p < length tables → HasTable task p (get_or tables p d)
+    table_at p d low =
+        let low' : p < length task.predicates = subst (λ n. p < n) are.many low in
+        let (x, found) = definition task.predicates p low' in by p d x x.is_static low' found refl
 
-    of_one : (d : PredicateDef) × (slice_get task.predicates p ≡ Some d) → IsTrueTable task words p table
-    of_one (d, found) = by d d.is_static found refl
-
--- a static predicate
-pub static_table : (task : Task) (words : List ℕ) (p : ℕ) (table : Rows) → is_fluent task.schemas p ≡ false → IsAtomTable task p table → IsTrueTable task words p table
-static_table task words p table static is = record {
-  arity = is.arity;
-  rows = λ row. (
-    λ h. subst IsTrue (sym (other row)) ((state_of-members task.init (atom_of p row)).1 ((is.atoms row).0 h)),
-    λ h. (is.atoms row).1 ((state_of-members task.init (atom_of p row)).0 (subst IsTrue (other row) h)),
-  );
-  objects = record {
-    rows = is.rows;
-    within = λ row x c m. All-contains (λ o. o < length task.objects) row x (All-contains (IsAtomOf task.objects task.predicates) task.init (row_atom p row) task.init_ok.each ((is.atoms row).0 c)).within m;
-  };
-}
+same_at : (task : Task) (words : List ℕ) (tables : List (Option Rows)) →
+    AreTablesOf task (state_in task words) tables → (a : Atom) →
+    state_of_tables task tables a ≡ state_in task words a
+unfolding state_of_tables
+same_at task words tables are a = by (slice_get task.predicates a.predicate) refl
   where
-    other : (row : List ℕ) → state_in task words (atom_of p row) ≡ initial task (atom_of p row)
-    other row = state_in-other task words (atom_of p row) (not_fluent task p static)
+    beyond : (x : Option (Option Rows)) → slice_get tables a.predicate ≡ x →
+        slice_get task.predicates a.predicate ≡ None →
+        is_true_by task a (slice_get tables a.predicate) ≡ initial task a
+    beyond None at out = ap (is_true_by task a) at
+    beyond (Some x) at out =
+        let low : a.predicate < length task.predicates = subst (λ n. a.predicate < n) are.many
+        (slice_get_within tables a.predicate x at) in
+        let (d, found) = definition task.predicates a.predicate low in absurd (no_some d (sym out ∙ found))
+      where
+        no_some : (d : PredicateDef) → None ≡ Some d → ⊥
+        no_some d e = absurd (cc)
 
--- a predicate has a table in the state, or a static one
-pub has_a_table : (task : Task) (s : State) (tables : List (Option Rows)) (p : ℕ) → AreTablesOf task s tables → p < length task.predicates → slice_get tables p ≡ Some None → is_fluent task.schemas p ≡ true → ⊥
-has_a_table task s tables p are low at fluent = of_one (definition task.predicates p low)
-  where
-    of_table : (d : PredicateDef) → (other : Rows) × (slice_get tables p ≡ Some (Some other)) × IsTableOf (length task.objects) s p d.arity other → ⊥
-    of_table d (other, here, is) = no_some other (same_some None (Some other) (sym at ∙ here))
+    of_table : (d : PredicateDef) → (table : Rows) × (slice_get tables a.predicate ≡ Some (Some table)) ×
+        IsTableOf (length task.objects) (state_in task words) a.predicate d.arity table →
+        is_true_by task a (slice_get tables a.predicate) ≡ state_in task words a
+    of_table d (table, here, is) =
+        ap (is_true_by task a) here
+        ∙ same_test (list_any (bytes_eq a.objects) table.rows) (state_in task words a) (
+          λ h. (is.true_rows.members a.objects).0 ((among_rows table.rows a.objects).0 h),
+          λ h. (among_rows table.rows a.objects).1 ((is.true_rows.members a.objects).1 h),
+        )
 
-    of_one : (d : PredicateDef) × (slice_get task.predicates p ≡ Some d) → ⊥
-    of_one (d, found) = of_table d ((are.each p d low found).fluent (task.predicates_ok.static p d found ∙ ap not fluent))
+    known : (d : PredicateDef) (b : Bool) → slice_get task.predicates a.predicate ≡ Some d → d.is_static ≡ b →
+        is_true_by task a (slice_get tables a.predicate) ≡ state_in task words a
+    known d true found is =
+        ap (is_true_by task a) ((are.each a.predicate d (slice_get_within task.predicates a.predicate d found)
+        found).static is)
+        ∙ sym (state_in-other task words a (static_one task a.predicate d found is))
+    known d false found is = of_table d ((are.each a.predicate d (slice_get_within task.predicates a.predicate
+        d found) found).fluent is)
 
--- the table of a predicate, as a source
-pub predicate_source : (task : Task) (schema : Schema) (words : List ℕ) (p : ℕ) (table : Rows) → IsTrueTable task words p table →
-    IsArityOf task (source.Predicate p) table.arity × ((row : List ℕ) → Contains table.rows row ↔ IsTrue (is_in_source task schema (state_in task words) (source.Predicate p) row))
-predicate_source task schema words p table is = (
-  record {
-    kind = λ q other. absurd (cc);
-    predicate = λ q d same found. (let at : p ≡ q = cc in is.arity d (ap (slice_get task.predicates) at ∙ found));
-  },
-  is.rows,
-)
+    by : (found : Option PredicateDef) → slice_get task.predicates a.predicate ≡ found →
+        is_true_by task a (slice_get tables a.predicate) ≡ state_in task words a
+    by None at = beyond (slice_get tables a.predicate) refl at ∙
+        sym (state_in-other task words a (ap is_fluent_one at))
+    by (Some d) at = known d d.is_static at refl
 
--- the table of the types of a parameter, as a source
-pub kind_source : (task : Task) (schema : Schema) (s : State) (p : ℕ) (table : Rows) → IsTypeTable task (types_at schema.parameters p) table →
-    IsArityOf task (source.Kind p) table.arity × ((row : List ℕ) → Contains table.rows row ↔ IsTrue (is_in_source task schema s (source.Kind p) row))
-kind_source task schema s p table is = (
-  record {
-    kind = λ q same. is.arity;
-    predicate = λ q d other found. absurd (cc);
-  },
-  is.objects,
-)
+-- they stand for it
+same_state : (task : Task) (words : List ℕ) (tables : List (Option Rows)) →
+    AreTablesOf task (state_in task words) tables → state_of_tables task tables ≡ state_in task words
+same_state task words tables are = fun_ext (same_at task words tables are)
 
--- as many objects as the rows of the predicate's table have values
-pub values_wide : (task : Task) (p n m : ℕ) → p < length task.predicates → ((d : PredicateDef) → slice_get task.predicates p ≡ Some d → n ≡ d.arity) → ((d : PredicateDef) → slice_get task.predicates p ≡ Some d → m ≡ d.arity) → n ≡ m
-values_wide task p n m low ours theirs = of_one (definition task.predicates p low)
-  where
-    of_one : (d : PredicateDef) × (slice_get task.predicates p ≡ Some d) → n ≡ m
-    of_one (d, found) = ours d found ∙ sym (theirs d found)
+-- the rows of a table that has an atom's rows in it
+pub row_true : (task : Task) (words : List ℕ) (tables given : List (Option Rows)) (p : ℕ)
+    (rows : List (List ℕ)) → given ≡ tables → AreTablesOf task (state_in task words) tables →
+    ((row : List ℕ) → Contains rows row ↔ IsTrue (state_of_tables task given (row_atom p row))) →
+    (row : List ℕ) → Contains rows row ↔ IsTrue (state_in task words (row_atom p row))
+row_true task words tables given p rows same are held =
+    subst (λ (s : State). (row : List ℕ) → Contains rows row ↔ IsTrue (s (row_atom p row)))
+    (ap (state_of_tables task) same ∙ same_state task words tables are) held
 
-kind_within : (task : Task) (types row : List ℕ) (x : ℕ) → is_of_kind task types row ≡ true → Contains row x → x < length task.objects
-kind_within task types [] x h m = absurd (Contains-nil x m)
-kind_within task types (o ∷ []) x h m = elim (Contains-cons_cases o [] x m) [
-  | inl e ↦ subst (λ y. y < length task.objects) e (typed_within task types o h)
-  | inr r ↦ absurd (Contains-nil x r)
-]
-kind_within task types (o ∷ (other ∷ rest)) x h m = absurd (cc)
+-- the state that the tables stand for, as they are given
+pub state_given : (task : Task) (words : List ℕ) (tables given : List (Option Rows)) → given ≡ tables →
+    AreTablesOf task (state_in task words) tables → state_of_tables task given ≡ state_in task words
+state_given task words tables given same are = ap (state_of_tables task) same ∙ same_state task words tables
+    are
 
-pub kind_objects : (task : Task) (types : List ℕ) (table : Rows) → IsTypeTable task types table → HasObjectRows (length task.objects) table
-kind_objects task types table is = record {
-  rows = subst (λ n. AreRows n table.rows) (sym is.arity) is.rows;
-  within = λ row x c m. kind_within task types row x ((is.objects row).0 c) m;
-}
+pub tables_given : (task : Task) (words : List ℕ) (tables given : List (Option Rows)) → given ≡ tables →
+    AreTablesOf task (state_in task words) tables → AreTables task given
+tables_given task words tables given same are = subst (AreTables task) (sym same)
+    (are_tables task (state_in task words) tables are)
+
+-- the schema with a number is one
+pub same_schema : (task : Task) (number : ℕ) (a b : Schema) → slice_get task.schemas number ≡ Some a →
+    slice_get task.schemas number ≡ Some b → a ≡ b
+same_schema task number a b here there = (let e : Some a ≡ Some b = sym here ∙ there in cc)

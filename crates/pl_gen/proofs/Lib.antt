@@ -1,16 +1,13 @@
 -- for the crates above: the applicable steps of a schema as rows
 pub mod SchemaRows
 pub mod Above
+-- for searches: the steps that a walk lends out
+pub mod Lent
 -- filters of lists
 mod Blocks
--- the parts of a normal form are of the task
-mod Forms
--- the tables that a query is asked of
+-- the tables that a query is asked of, and those that it is reduced to
 mod Asking
--- the relation of an edge, and the join of the relations of all edges
-mod Edging
-mod Joins
-mod Relating
+mod Tables
 -- the turn of a schema
 mod Turning
 -- the steps of a walk one by one
@@ -19,8 +16,7 @@ mod Stepping
 mod Counting
 mod Reading
 mod Giving
+mod Seeking
 -- how many probes the preparation of a state takes
-mod Few
-mod Preparing
-mod Tables
 mod Sizes
+mod Basing

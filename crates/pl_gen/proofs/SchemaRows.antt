@@ -1,5 +1,7 @@
 -- The applicable steps of a schema are the steps under the answers of its query, row by row.
-use Rattle.std.proofs.Common.{◌≡◌, ◌≢◌, ℕ, ◌<◌, Bool, true, false, not, ◌&&◌, ◌==◌, if◌then◌else◌, List, [], ◌∷◌, length, map, filter, get_or, Option, Some, None, slice_get, refl, sym, ◌∙◌, ap, subst, arith, inl, inr, IsTrue, Contains}
+use Rattle.std.proofs.Common.{◌≡◌, ◌≢◌, ℕ, ◌<◌, Bool, true, false, not, ◌&&◌, ◌==◌, if◌then◌else◌, List, []}
+use Rattle.std.proofs.Common.{◌∷◌, length, map, filter, get_or, Option, Some, None, slice_get, refl, sym, ◌∙◌}
+use Rattle.std.proofs.Common.{ap, subst, arith, inl, inr, IsTrue, Contains}
 use Rattle.std.specs.Prelude.{slice_index}
 use Rattle.std.specs.List.{AllPairs, flat_map, list_all, range_with_len}
 use Rattle.std.specs.List.Sorted.{IsStrictlySortedBy}
@@ -8,7 +10,8 @@ use Rattle.std.proofs.lemmas.Grind.{same_number_lists}
 use Rattle.std.proofs.lemmas.List.{length-map, get_or-map as list_map}
 use Rattle.std.proofs.lemmas.List.Elements.{Contains-get_or}
 use Rattle.pl_rows.specs.Rows.{row_cmp}
-use Rattle.pl_rows.proofs.Canonical.{Contains-cons_cases, Contains-cons_first, Contains-cons_rest, Contains-nil, same_ascending}
+use Rattle.pl_rows.proofs.Canonical.{Contains-cons_cases, Contains-cons_first, Contains-cons_rest}
+use Rattle.pl_rows.proofs.Canonical.{Contains-nil, same_ascending}
 use Rattle.pl_task.specs.declared.data.Atom.{Atom}
 use Rattle.pl_task.specs.declared.data.Literal.{Literal}
 use Rattle.pl_task.specs.declared.data.Literal.TheVariants as literal
@@ -22,7 +25,8 @@ use Rattle.pl_join.specs.declared.slot.Slot.{Slot}
 use Rattle.pl_join.specs.declared.slot.Slot.TheVariants.{Fixed, Class}
 use Rattle.pl_join.specs.Relation.{Assignment, Agree, slot_value}
 use Rattle.pl_join.proofs.Assignments.{agree_map}
-use Rattle.pl_join.proofs.Members.{Contains-map, Contains-from_map, Contains-filter, Contains-from_filter, Contains-from_flat_map}
+use Rattle.pl_join.proofs.Members.{Contains-map, Contains-from_map, Contains-filter, Contains-from_filter}
+use Rattle.pl_join.proofs.Members.{Contains-from_flat_map}
 use Rattle.pl_normal.specs.declared.form.Edge.{Edge}
 use Rattle.pl_normal.specs.declared.form.Sieve.{Sieve}
 use Rattle.pl_normal.specs.declared.form.Sieve.TheVariants as sieve
@@ -33,14 +37,18 @@ use Rattle.pl_normal.specs.Filters.{literal_sieve, sieves_of, home, late_at, lat
 use Rattle.pl_normal.specs.Guards.{guards_of}
 use Rattle.pl_normal.specs.Measures.{assigned}
 use Rattle.pl_normal.specs.ParameterOrder.{classes_in_order, order_of}
-use Rattle.pl_normal.specs.Query.{KeepsStatic, values_of, meets_guard, meets_sieve, is_local_answer, is_answer, args_under, step_under}
+use Rattle.pl_normal.specs.Query.{KeepsStatic, values_of, meets_guard, meets_sieve, is_local_answer}
+use Rattle.pl_normal.specs.Query.{is_answer, args_under, step_under}
 use Rattle.pl_normal.specs.StepOrder.{step_cmp}
 use Rattle.pl_normal.specs.Steps.{tuples, place_of, step_of, steps_of, all_steps, applicable_steps}
 use Rattle.pl_normal.proofs.Lists.{passes_all, all_pass}
 use Rattle.pl_normal.proofs.SlotLemmas.{term_value, terms_values}
-use Rattle.pl_normal.proofs.Answering.{answer_meets, meets_answer, type_edge_among, answer_applicable, applicable_answer, applicable_under}
+use Rattle.pl_normal.proofs.Answering.{answer_meets, meets_answer, type_edge_among, answer_applicable}
+use Rattle.pl_normal.proofs.Answering.{applicable_answer, applicable_under}
 use Rattle.pl_normal.proofs.Ordered.{IsUnfixed, term_unfixed, in_order_unfixed, classes_once}
-use Rattle.pl_normal.proofs.Listing.{sorted_none, sorted_first, sorted_map, sorted_filter, place_is, one_place, block_ascends, applicable_listed, step_order_total, steps_are_assignments, steps_compare}
+use Rattle.pl_normal.proofs.Listing.{sorted_none, sorted_first, sorted_map, sorted_filter, place_is}
+use Rattle.pl_normal.proofs.Listing.{one_place, block_ascends, applicable_listed, step_order_total}
+use Rattle.pl_normal.proofs.Listing.{steps_are_assignments, steps_compare}
 use Rattle.pl_gen.specs.SchemaSteps.{AreRowsOf, applicable_of, step_at, passes_late}
 use Rattle.pl_gen.proofs.Blocks.{no_members, all_agree, filter-flat_map}
 

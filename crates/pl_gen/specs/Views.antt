@@ -11,9 +11,12 @@ use Rattle.pl_gen.specs.declared.view.View.{View}
 use Rattle.pl_gen.specs.declared.view.View.TheVariants as view
 use Rattle.pl_gen.specs.Entries.{AreTablesFor}
 
--- `Never` exactly where a guard is false, `Always` exactly where all guards hold and there is no edge, and else the reduced tables
+-- `Never` exactly where a guard is false, `Always` exactly where all guards hold and there is no edge, and
+-- else the reduced tables
 abbrev pub IsViewOf : Task → Schema → State → View → Type 0
 IsViewOf task schema s view.Never = list_all (meets_guard s) (guards_of task schema) ≡ false
-IsViewOf task schema s view.Always = (list_all (meets_guard s) (guards_of task schema) ≡ true) × (edges_of schema ≡ [])
+IsViewOf task schema s view.Always = (list_all (meets_guard s) (guards_of task schema) ≡ true)
+    × (edges_of schema ≡ [])
 IsViewOf task schema s (view.Tables join) =
-    (list_all (meets_guard s) (guards_of task schema) ≡ true) × ((0 < length (edges_of schema)) × AreTablesFor task schema s join.now)
+    (list_all (meets_guard s) (guards_of task schema) ≡ true)
+    × ((0 < length (edges_of schema)) × AreTablesFor task schema s join.now)

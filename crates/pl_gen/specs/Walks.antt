@@ -1,5 +1,6 @@
 -- A prepared state, the steps that are applicable in it, and a walk over them as its callers see it.
-use Rattle.std.specs.Prelude.{◌≡◌, ◌≤◌, ◌∷◌, ◌+◌, ◌*◌, ℕ, Bool, List, [], length, filter, Option, None, Some, slice_get, Contains}
+use Rattle.std.specs.Prelude.{◌≡◌, ◌≤◌, ◌∷◌, ◌+◌, ◌*◌, ◌==◌, cond, ℕ, Bool, List, [], length, filter, Option}
+use Rattle.std.specs.Prelude.{None, Some, slice_get, Contains}
 use Rattle.std.specs.List.{sum_by}
 use Rattle.std.specs.Ordering.{is_lt}
 use Rattle.pl_task.specs.declared.data.Schema.{Schema}
@@ -9,7 +10,7 @@ use Rattle.pl_task.specs.States.{State}
 use Rattle.pl_hyper.specs.JoinTree.{IsAcyclic}
 use Rattle.pl_normal.specs.Edges.{edges_of, sets_of}
 use Rattle.pl_normal.specs.Filters.{late_of}
-use Rattle.pl_normal.specs.Measures.{local_answers}
+use Rattle.pl_normal.specs.Measures.{local_answers, relation_rows}
 use Rattle.pl_normal.specs.ParameterOrder.{classes_in_order}
 use Rattle.pl_normal.specs.StepOrder.{step_cmp}
 use Rattle.pl_normal.specs.Steps.{applicable_steps}
@@ -40,11 +41,13 @@ is_above task past step = is_lt (step_cmp task past step)
 abbrev pub steps_above : PreparedState → Instance → List Instance
 steps_above prepared past = filter (is_above prepared.task past) (steps_in prepared)
 
--- what a walk may probe for the steps of a schema: three probes for each unfixed class where it is resumed there, and then for each
--- assignment that meets all but the late filters two for each unfixed class and one for each late filter
+-- what a walk may probe for the steps of a schema: three probes for each unfixed class where it is resumed
+-- there, and then for each assignment that meets all but the late filters two for each unfixed class and one
+-- for each late filter
 unfoldable pub schema_reads : Task → State → Schema → ℕ
 schema_reads task s schema =
-    3 * length (classes_in_order schema) + local_answers task s schema * (2 * length (classes_in_order schema) + length (late_of schema))
+    3 * length (classes_in_order schema) + local_answers task s schema
+    * (2 * length (classes_in_order schema) + length (late_of schema))
 
 -- and for those of some schemas
 abbrev pub reads_in : Task → State → List Schema → ℕ
@@ -54,17 +57,34 @@ reads_in task s schemas = sum_by (schema_reads task s) schemas
 abbrev pub walk_reads : PreparedState → ℕ
 walk_reads prepared = reads_in prepared.task (state_of_prepared prepared) prepared.task.schemas
 
+-- the unfixed classes whose values are looked for where a walk is resumed at the schema: none where no edge
+-- has a row
+unfoldable pub sought_classes : Task → State → Schema → ℕ
+sought_classes task s schema =
+    cond {A = ℕ} (relation_rows task s schema == 0) 0 (length (classes_in_order schema))
+
+-- what resuming a walk may probe: three probes for each class that is sought, of whichever schema
+abbrev pub resume_reads : PreparedState → ℕ
+resume_reads prepared =
+    sum_by (λ schema. 3 * sought_classes prepared.task (state_of_prepared prepared) schema)
+    prepared.task.schemas
+
+-- what one step may probe where all filters are local: two probes for each unfixed class, of whichever schema
+abbrev pub step_reads : Task → ℕ
+step_reads task = sum_by (λ schema. 2 * length (classes_in_order schema)) task.schemas
+
 -- all schemas of the task are acyclic
 abbrev pub AreAcyclic : Task → Type 0
 AreAcyclic task = (schema : Schema) → Contains task.schemas schema → IsAcyclic (sets_of (edges_of schema))
 
 -- all filters of the schemas from one number up to, and with, another are local
 abbrev pub AreLocal : Task → ℕ → ℕ → Type 0
-AreLocal task first last = (number : ℕ) (schema : Schema) → first ≤ number → number ≤ last → slice_get task.schemas number ≡ Some schema →
+AreLocal task first last = (number : ℕ) (schema : Schema) → first ≤ number → number ≤ last
+    → slice_get task.schemas number ≡ Some schema →
     late_of schema ≡ []
 
--- a walk: the state, the applicable steps that are still to be given, the step last given, the number of the schema that the next
--- step is looked for in first, and how many probes the rest of the walk may take
+-- a walk: the state, the applicable steps that are still to be given, the step last given, the number of the
+-- schema that the next step is looked for in first, and how many probes the rest of the walk may take
 pub record WalkView : Type 0 where
   pub prepared : PreparedState
   pub left : List Instance

@@ -4,7 +4,8 @@ ghost use Rattle.std.specs.Prelude.{◌≡◌, ◌≤◌, ◌+◌, ◌++◌, ℕ
 ghost use Rattle.std.specs.List.{list_all};
 ghost use Rattle.pl_join.specs.Relation.{slot_value, IsSlotBelow};
 ghost use Rattle.pl_normal.specs.Query.{meets_sieve, values_of};
-ghost use Rattle.pl_gen.specs.Queries.{IsQuery, IsSieveOf, state_asked};
+ghost use Rattle.pl_normal.specs.Queries.{IsSieveOf};
+ghost use Rattle.pl_gen.specs.Queries.{IsQuery, state_asked};
 
 use crate::query::{Query, predicate_table};
 use pl_join::Slot;
@@ -15,10 +16,10 @@ use std::sync::ledger::Ledger;
 /// The most slots that an atom has.
 const MOST_SLOTS: usize = 64;
 
-/// Whether all filters let the values pass; `values` has one for each class, by the class's number. It takes at most one
-/// probe for each filter.
+/// Whether all filters let the values pass; `values` has one for each class, by the class's number. It takes
+/// at most one probe for each filter.
 pub fn passes_all<L: Ledger>(
-    query: &Query<'_>,
+    query: &Query<'_, '_>,
     sieves: &[Sieve],
     values: &[u32],
     steps: &mut Steps<L>,
@@ -26,7 +27,8 @@ pub fn passes_all<L: Ledger>(
     requires query { IsQuery query.now }
     requires sieves { All (IsSieveOf query.now.normal.now) sieves.now }
     requires values { length values.now ≡ 64 }
-    ensures passes { result ≡ list_all (meets_sieve (state_asked query.now) (slice_index values.now)) sieves.now }
+    ensures passes { result ≡ list_all (meets_sieve (state_asked query.now) (slice_index values.now))
+        sieves.now }
     ensures cost { steps.new ≤ steps.old + length sieves.now }
     ensures rise { steps.old ≤ steps.new }
 {
@@ -39,7 +41,12 @@ pub fn passes_all<L: Ledger>(
 }
 
 /// Whether a filter lets the values pass. It takes at most one probe.
-fn passes<L: Ledger>(query: &Query<'_>, sieve: &Sieve, values: &[u32], steps: &mut Steps<L>) -> bool
+fn passes<L: Ledger>(
+    query: &Query<'_, '_>,
+    sieve: &Sieve,
+    values: &[u32],
+    steps: &mut Steps<L>,
+) -> bool
     requires query { IsQuery query.now }
     requires sieve { IsSieveOf query.now.normal.now sieve.now }
     requires values { length values.now ≡ 64 }

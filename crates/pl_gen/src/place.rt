@@ -1,6 +1,7 @@
 //! Where a walk stands.
 
-ghost use Rattle.std.specs.Prelude.{◌≡◌, ◌≤◌, ◌<◌, ◌+◌, ◌*◌, [], Some, length, take, drop, slice_get, slice_index, All};
+ghost use Rattle.std.specs.Prelude.{◌≡◌, ◌≤◌, ◌<◌, ◌+◌, ◌*◌, [], Some, length, take, drop, slice_get};
+ghost use Rattle.std.specs.Prelude.{slice_index, All};
 ghost use Rattle.std.specs.Bool.{OnTrue, OnFalse};
 ghost use Rattle.pl_normal.specs.Filters.{late_of};
 ghost use Rattle.pl_normal.specs.NormalForm.{IsNormalForm};
@@ -22,8 +23,8 @@ use std::sync::ledger::Ledger;
 /// The most parameters that a schema has.
 pub const MOST_PARAMETERS: usize = 64;
 
-/// The schema whose turn it is with what it has still to give, the values of its classes by their numbers, and the step last
-/// given.
+/// The schema whose turn it is with what it has still to give, the values of its classes by their numbers,
+/// and the step last given.
 #[derive(Drop)]
 pub struct Place<'p> {
     pub number: u32,
@@ -83,8 +84,8 @@ pub fn walk_on<'p, L: Ledger>(
     false
 }
 
-/// Makes the turn that of the schema with the number, before its first step. It is a function of its own, so that a step
-/// within a turn makes no room for another one.
+/// Makes the turn that of the schema with the number, before its first step. It is a function of its own, so
+/// that a step within a turn makes no room for another one.
 #[inline(never)]
 fn begin_turn<'p>(prepared: &'p Prepared<'p, 'p>, turn: &mut Turn<'p>, number: u32)
     ensures steps { turn_steps prepared.now number turn.new
@@ -131,7 +132,8 @@ pub fn write_args(args: &mut [u32], form: &NormalSchema, values: &[u32])
     requires fixed { length form.now.fixed ≡ length form.now.class_of }
     requires few { length form.now.class_of ≤ 64 }
     ensures same { length args.new ≡ 64 }
-    ensures args { (task : TaskOf) → (schema : SchemaOf) → IsNormalForm task schema form.now → length schema.parameters ≤ 64 →
+    ensures args { (task : TaskOf) → (schema : SchemaOf) → IsNormalForm task schema form.now
+        → length schema.parameters ≤ 64 →
         take (length form.now.class_of) args.new ≡ args_under schema (slice_index values.now) }
 {
     let classes = form.class_of.as_slice();

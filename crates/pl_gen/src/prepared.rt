@@ -1,6 +1,7 @@
 //! A state with what its applicable steps are read from.
 
-ghost use Rattle.std.specs.Prelude.{◌≡◌, ◌≤◌, ◌<◌, ◌+◌, ◌*◌, ◌++◌, ℕ, List, None, Some, length, map, drop, filter, slice_get, slice_index, All, IfOk, true};
+ghost use Rattle.std.specs.Prelude.{◌≡◌, ◌≤◌, ◌<◌, ◌+◌, ◌*◌, ◌++◌, ℕ, List, None, Some, length, map, drop};
+ghost use Rattle.std.specs.Prelude.{filter, slice_get, slice_index, All, IfOk, true};
 ghost use Rattle.pl_task.specs.declared.data.Schema.{Schema as SchemaOf};
 ghost use Rattle.pl_task.specs.States.{IsStep};
 ghost use Rattle.pl_cursor.specs.Cursor.{AreAnswersPast};
@@ -8,11 +9,13 @@ ghost use Rattle.pl_state.specs.StateOf.{IsStateOf, state_in};
 ghost use Rattle.pl_state.specs.Tables.{AreTablesOf};
 ghost use Rattle.pl_normal.specs.NormalForm.{IsNormalForm};
 ghost use Rattle.std.specs.List.{sum_by};
-ghost use Rattle.pl_normal.specs.Measures.{probe_bound};
+ghost use Rattle.pl_normal.specs.Measures.{base_bound, probe_bound};
 ghost use Rattle.pl_normal.specs.ParameterOrder.{classes_in_order};
 ghost use Rattle.pl_normal.specs.Query.{step_under};
-ghost use Rattle.pl_gen.specs.Walks.{steps_in, steps_above, is_above, state_of_prepared, step_with, reads_in, walk_reads, AreAcyclic};
-ghost use Rattle.pl_gen.specs.Measures.{entry_probes};
+ghost use Rattle.pl_gen.specs.Walks.{steps_in, steps_above, is_above, state_of_prepared, step_with, reads_in};
+ghost use Rattle.pl_gen.specs.Walks.{walk_reads, AreAcyclic};
+ghost use Rattle.pl_gen.specs.Walks.{resume_reads, sought_classes, step_reads};
+ghost use Rattle.pl_gen.specs.Measures.{entry_probes, close_entry_probes};
 ghost use Rattle.pl_gen.specs.Reads.{reads_of};
 ghost use Rattle.pl_gen.specs.Queries.{IsQuery};
 ghost use Rattle.pl_gen.specs.Views.{IsViewOf};
@@ -45,7 +48,7 @@ pub struct Prepared<'n, 't> {
     normal: &'n NormalTask<'t>,
     words: Vec<u32>,
     tables: StateTables,
-    entries: Vec<Entry>,
+    entries: Vec<Entry<'n>>,
 }
 
 impl<'n, 't> Model for Prepared<'n, 't> {
@@ -60,9 +63,12 @@ impl<'n, 't> Model for Prepared<'n, 't> {
 }
 
 impl<'n, 't> Prepared<'n, 't> {
-    /// Prepares a state of the task. The only error is want of memory. After it no part of an enumeration takes memory.
+    /// Prepares a state of the task. The only error is want of memory. After it no part of an enumeration
+    /// takes memory.
     ///
-    /// Where all schemas are acyclic, what it takes and what a walk may take are together at most the bound of the state.
+    /// Where all schemas are acyclic, what it takes and what a walk may take are together at most the bound
+    /// of the state. With what resuming a walk and, where all filters are local, one step may take it is at
+    /// most the base bound, however many answers there are.
     pub fn prepare<L: Ledger>(
         alloc: Global,
         normal: &'n NormalTask<'t>,
@@ -72,9 +78,13 @@ impl<'n, 't> Prepared<'n, 't> {
         requires { IsStateOf normal.now state.now }
         ensures prepared { IfOk result (λ p. p ≡ record { task = normal.now; words = state.now }) }
         ensures tables { IfOk result (λ _. AreAcyclic normal.now →
-            steps.new ≤ steps.old + sum_by (entry_probes normal.now (state_in normal.now state.now)) normal.now.schemas) }
+            steps.new ≤ steps.old + sum_by (entry_probes normal.now (state_in normal.now state.now))
+            normal.now.schemas) }
         ensures cost { IfOk result (λ p. AreAcyclic normal.now →
             steps.new + walk_reads p ≤ steps.old + probe_bound normal.now (state_in normal.now state.now)) }
+        ensures base { IfOk result (λ p. AreAcyclic normal.now →
+            steps.new + (resume_reads p + step_reads normal.now)
+            ≤ steps.old + base_bound normal.now (state_in normal.now state.now)) }
         ensures rise { steps.old ≤ steps.new }
     {
         let tables = tables(alloc, normal.task(), state)?;
@@ -101,16 +111,18 @@ impl<'n, 't> Prepared<'n, 't> {
 
     /// Before the first applicable step above `past`, which is any step of the task, applicable or not.
     ///
-    /// It takes at most three probes for each unfixed class of the schema of `past`, however many steps lie before. They are
-    /// counted in what a walk may take.
+    /// It takes at most three probes for each unfixed class of the schema of `past`, however many steps lie
+    /// before. They are counted in what a walk may take.
     pub fn resume<L: Ledger>(&self, past: StepRef<'_>, steps: &mut Steps<L>) -> Walk<'_>
         requires { IsStep self.now.task (record { schema = past.schema; args = past.args.now }) }
         ensures prepared { result.prepared ≡ self.now }
-        ensures left { result.left ≡ steps_above self.now (record { schema = past.entry.schema; args = past.entry.args.now }) }
+        ensures left { result.left ≡ steps_above self.now
+            (record { schema = past.entry.schema; args = past.entry.args.now }) }
         ensures last { result.last ≡ None }
         ensures number { result.number ≡ past.entry.schema }
         ensures sought { (s : SchemaOf) → slice_get self.now.task.schemas past.entry.schema ≡ Some s →
             steps.new ≤ steps.old + 3 * length (classes_in_order s) }
+        ensures few { steps.new ≤ steps.old + resume_reads self.now }
         ensures cost { steps.new + result.reads ≤ steps.old + walk_reads self.now }
         ensures rise { steps.old ≤ steps.new }
     {
@@ -123,7 +135,8 @@ impl<'n, 't> Prepared<'n, 't> {
     /// What is kept of a schema.
     pub fn view(&self, schema: u32) -> View<'_>
         requires { schema < length self.now.task.schemas }
-        ensures { (s : SchemaOf) → slice_get self.now.task.schemas schema ≡ Some s → IsViewOf self.now.task s (state_of_prepared self.now) result }
+        ensures { (s : SchemaOf) → slice_get self.now.task.schemas schema ≡ Some s
+            → IsViewOf self.now.task s (state_of_prepared self.now) result }
     {
         match &self.entries[schema as usize] {
             Entry::Never => View::Never,
@@ -140,7 +153,7 @@ impl<'n, 't> Prepared<'n, 't> {
     }
 
     /// The query of a schema in the state.
-    pub(crate) fn query(&self, number: u32) -> Query<'_>
+    pub(crate) fn query(&self, number: u32) -> Query<'_, '_>
         requires { number < length self.now.task.schemas }
         ensures query { IsQuery result }
         ensures task { result.normal.now ≡ self.now.task }
@@ -160,15 +173,18 @@ impl<'n, 't> Prepared<'n, 't> {
     /// The normal form of a schema.
     pub(crate) fn form(&self, number: u32) -> &NormalSchema
         requires { number < length self.now.task.schemas }
-        ensures { (s : SchemaOf) → slice_get self.now.task.schemas number ≡ Some s → IsNormalForm self.now.task s result.now }
+        ensures { (s : SchemaOf) → slice_get self.now.task.schemas number ≡ Some s
+            → IsNormalForm self.now.task s result.now }
     {
         let normal = self.normal;
         normal.schema(number)
     }
 
-    /// The turn of a schema, before its first step. Behind the last schema no step is left. It takes no probe.
+    /// The turn of a schema, before its first step. Behind the last schema no step is left. It takes no
+    /// probe.
     pub(crate) fn turn(&self, number: u32) -> Turn<'_>
-        ensures steps { turn_steps self.now number result ≡ applicable_of self.now.task (state_of_prepared self.now) number }
+        ensures steps { turn_steps self.now number result ≡ applicable_of self.now.task
+            (state_of_prepared self.now) number }
         ensures turn { IsTurnOf self.now.task number result }
         ensures reads { reads_of self.now number result ≤
             reads_in self.now.task (state_of_prepared self.now) (drop number self.now.task.schemas) }
@@ -192,8 +208,11 @@ impl<'n, 't> Prepared<'n, 't> {
         ensures turn { IsTurnOf self.now.task past.entry.schema result }
         ensures sought { (s : SchemaOf) → slice_get self.now.task.schemas past.entry.schema ≡ Some s →
             steps.new ≤ steps.old + 3 * length (classes_in_order s) }
+        ensures few { (s : SchemaOf) → slice_get self.now.task.schemas past.entry.schema ≡ Some s →
+            steps.new ≤ steps.old + 3 * sought_classes self.now.task (state_of_prepared self.now) s }
         ensures cost { steps.new + reads_of self.now past.entry.schema result ≤
-            steps.old + reads_in self.now.task (state_of_prepared self.now) (drop past.entry.schema self.now.task.schemas) }
+            steps.old + reads_in self.now.task (state_of_prepared self.now)
+            (drop past.entry.schema self.now.task.schemas) }
         ensures rise { steps.old ≤ steps.new }
     {
         match &self.entries[past.schema as usize] {
@@ -217,7 +236,8 @@ impl<'n, 't> Prepared<'n, 't> {
         }
     }
 
-    /// Whether the step of the same schema, in which each class has the object of the parameter that names it, is above the step.
+    /// Whether the step of the same schema, in which each class has the object of the parameter that names
+    /// it, is above the step.
     fn key_is_above(&self, past: StepRef<'_>) -> bool
         requires { IsStep self.now.task (record { schema = past.schema; args = past.args.now }) }
         ensures { (s : SchemaOf) → slice_get self.now.task.schemas past.entry.schema ≡ Some s →
@@ -236,7 +256,7 @@ impl<'n, 't> Prepared<'n, 't> {
 }
 
 /// A law: the answers of a reduced join are a list.
-fn answers_are_listed(reduced: &Reduced)
+fn answers_are_listed(reduced: &Reduced<'_>)
     ensures { (all : List (List ℕ)) × AreAnswersPast reduced.now (λ _. true) all }
 {
     let _ = Cursor::start(reduced);
@@ -254,18 +274,20 @@ fn write_key(key: &mut [u32], classes: &[u32], args: &[u32])
 }
 
 /// The entries of all schemas.
-fn entries_of<L: Ledger>(
+fn entries_of<'n, L: Ledger>(
     alloc: Global,
-    normal: &NormalTask<'_>,
+    normal: &'n NormalTask<'_>,
     words: &[u32],
     tables: &StateTables,
     steps: &mut Steps<L>,
-) -> Result<Vec<Entry>, AllocError>
+) -> Result<Vec<Entry<'n>>, AllocError>
     requires state { IsStateOf normal.now words.now }
     requires tables { AreTablesOf normal.now (state_in normal.now words.now) tables.now }
-    ensures entries { IfOk result (λ v. AreEntriesUpTo normal.now (state_in normal.now words.now) (length normal.now.schemas) v.items) }
+    ensures entries { IfOk result
+        (λ v. AreEntriesUpTo normal.now (state_in normal.now words.now) (length normal.now.schemas) v.items) }
     ensures cost { IfOk result (λ _. AreAcyclic normal.now → steps.new
-        ≤ steps.old + sum_by (entry_probes normal.now (state_in normal.now words.now)) normal.now.schemas) }
+        ≤ steps.old
+        + sum_by (close_entry_probes normal.now (state_in normal.now words.now)) normal.now.schemas) }
     ensures rise { steps.old ≤ steps.new }
 {
     let schemas = normal.task().schemas.as_slice();

@@ -28,9 +28,10 @@ pub enum Turn<'p> {
     Rows(Cursor<'p>),
 }
 
-/// Goes on to the next step of the turn, if there is one, and leaves the values of the schema's classes for it.
+/// Goes on to the next step of the turn, if there is one, and leaves the values of the schema's classes for
+/// it.
 pub fn next_values<L: Ledger>(
-    query: &Query<'_>,
+    query: &Query<'_, '_>,
     form: &NormalSchema,
     turn: &mut Turn<'_>,
     values: &mut [u32],
@@ -61,7 +62,7 @@ pub fn next_values<L: Ledger>(
 
 /// Goes on to the next row that the late filters let pass, if there is one, and writes its values.
 fn next_row<L: Ledger>(
-    query: &Query<'_>,
+    query: &Query<'_, '_>,
     form: &NormalSchema,
     cursor: &mut Cursor<'_>,
     values: &mut [u32],

@@ -10,5 +10,5 @@ pub enum View<'p> {
     /// All guards hold and there is no edge: one step is applicable.
     Always,
     /// The reduced tables of the edges and local filters, node by node along the schema's ears.
-    Tables(&'p Reduced),
+    Tables(&'p Reduced<'p>),
 }

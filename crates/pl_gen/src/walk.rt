@@ -1,13 +1,14 @@
 //! A walk over the applicable steps of a prepared state.
 
-ghost use Rattle.std.specs.Prelude.{◌≡◌, ◌≤◌, ◌<◌, ◌+◌, ◌*◌, [], Some, length, option_map, slice_get, IfSome, IfNone};
+ghost use Rattle.std.specs.Prelude.{◌≡◌, ◌≤◌, ◌<◌, ◌+◌, ◌*◌, [], Some, length, option_map, slice_get, IfSome};
+ghost use Rattle.std.specs.Prelude.{IfNone};
 ghost use Rattle.std.specs.Bool.{OnTrue};
 ghost use Rattle.std.specs.Borrow.{sem};
 ghost use Rattle.pl_task.specs.declared.data.Schema.{Schema as SchemaOf};
 ghost use Rattle.pl_task.specs.Instance.{instance_of};
 ghost use Rattle.pl_normal.specs.Measures.{schema_size, largest_size};
 ghost use Rattle.pl_gen.specs.Turns.{GoesOn, WalksOnLocal};
-ghost use Rattle.pl_gen.specs.Walks.{IsTurn, AreLocal};
+ghost use Rattle.pl_gen.specs.Walks.{IsTurn, AreLocal, step_reads};
 ghost use Rattle.pl_gen.specs.Lending.{Rests};
 
 use crate::place::{Place, walk_on};
@@ -19,8 +20,8 @@ use std::sync::ledger::Ledger;
 
 /// The applicable steps of a prepared state, one by one in step order. It takes no memory.
 ///
-/// Contracts see the prepared state, the steps that are left, the step last given, the schema that the next step is looked
-/// for in first, and how many probes the rest of the walk may take.
+/// Contracts see the prepared state, the steps that are left, the step last given, the schema that the next
+/// step is looked for in first, and how many probes the rest of the walk may take.
 #[derive(Drop)]
 pub struct Walk<'p> {
     prepared: &'p Prepared<'p, 'p>,
@@ -70,21 +71,29 @@ impl<'p> Walk<'p> {
 
     /// The next applicable step, or None where none is left; then the walk is at its end.
     ///
-    /// What it takes and what the rest may take is together no more than what the walk might take before. Where it passes no
-    /// schema with late filters it takes at most two probes for each literal and parameter of the schema that gives the step.
+    /// What it takes and what the rest may take is together no more than what the walk might take before.
+    /// Where it passes no schema with late filters it takes at most two probes for each literal and parameter
+    /// of the schema that gives the step.
     pub fn next<L: Ledger>(&mut self, steps: &mut Steps<L>) -> Option<StepRef<'_>>
         ensures* after { sem 𝓛 (Rests self.entry (λ new. IsTurn self.old
             (option_map (λ step. record { schema = step.schema; args = step.args.now }) result) new
             × (steps.new + new.reads ≤ steps.old + self.old.reads))) }
         ensures none { IfNone result (self.old.left ≡ []) }
-        ensures first { IfSome result (λ step. slice_get self.old.left 0 ≡ Some (record { schema = step.schema; args = step.args.now })) }
+        ensures first { IfSome result
+            (λ step. slice_get self.old.left 0 ≡ Some
+            (record { schema = step.schema; args = step.args.now })) }
         ensures one { IfSome result (λ step. AreLocal self.old.prepared.task self.old.number step.schema →
             (schema : SchemaOf) → slice_get self.old.prepared.task.schemas step.schema ≡ Some schema →
             steps.new ≤ steps.old + 2 * schema_size schema) }
-        ensures over { IfNone result (AreLocal self.old.prepared.task self.old.number (length self.old.prepared.task.schemas) →
+        ensures over { IfNone result
+            (AreLocal self.old.prepared.task self.old.number (length self.old.prepared.task.schemas) →
             steps.new ≡ steps.old) }
-        ensures each { AreLocal self.old.prepared.task self.old.number (length self.old.prepared.task.schemas) →
+        ensures each { AreLocal self.old.prepared.task self.old.number
+            (length self.old.prepared.task.schemas) →
             steps.new ≤ steps.old + 2 * largest_size self.old.prepared.task }
+        ensures few { AreLocal self.old.prepared.task self.old.number
+            (length self.old.prepared.task.schemas) →
+            steps.new ≤ steps.old + step_reads self.old.prepared.task }
         ensures rise { steps.old ≤ steps.new }
     {
         if self.advance(steps) {
@@ -111,7 +120,8 @@ impl<'p> Walk<'p> {
 
     /// The step that was given last, lent out; None before the first one.
     fn last(&self) -> Option<StepRef<'_>>
-        ensures { option_map (λ step. record { schema = step.schema; args = step.args.now }) result ≡ self.now.last }
+        ensures { option_map (λ step. record { schema = step.schema; args = step.args.now })
+            result ≡ self.now.last }
     {
         if self.given {
             Some(StepRef {

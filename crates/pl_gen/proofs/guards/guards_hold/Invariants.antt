@@ -6,6 +6,7 @@ use Rattle.pl_gen.proofs.guards.guards_hold.Given as goal
 
 abbrev pub invariant-loop-guard : goal.invariant-loop-guard
 invariant-loop-guard g l =
-    (list_all (meets_guard (state_asked l.query)) l.guards ≡ list_all (meets_guard (state_asked l.query)) (drop l.guard-index l.guards))
+    (list_all (meets_guard (state_asked l.query)) l.guards ≡ list_all (meets_guard (state_asked l.query))
+    (drop l.guard-index l.guards))
     × (l.steps ≤ l.initial.steps + l.guard-index)
     × (l.initial.steps ≤ l.steps)

@@ -4,6 +4,8 @@ use Rattle.pl_gen.proofs.laws.rows_are_steps.Goals as goal
 pub returns : goal.returns
 returns c = record {
   schemas = λ s. steps_come_by_schemas c.args._task.now s;
-  rows = λ number schema s rows found keeps are. rows_are_steps c.args._task.now number schema s rows found keeps are;
-  late = λ number schema s rows found are. late_filters_are_last c.args._task.now number schema s rows found are;
+  rows = λ number schema s rows found keeps are. rows_are_steps c.args._task.now number schema s rows found
+      keeps are;
+  late = λ number schema s rows found are. late_filters_are_last c.args._task.now number schema s rows found
+      are;
 }

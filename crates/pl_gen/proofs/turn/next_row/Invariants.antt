@@ -11,7 +11,8 @@ invariant-loop-row g l =
     × AreRowsFor l.query.normal.now l.query.number l.cursor
     × (length l.values ≡ 64)
     × (l.initial.steps ≤ l.steps)
-    × (l.steps + length l.cursor.left * row_reads l.query.schema.now ≤ l.initial.steps + length l.initial.cursor.left * row_reads l.query.schema.now)
+    × (l.steps + length l.cursor.left * row_reads l.query.schema.now ≤ l.initial.steps + length
+    l.initial.cursor.left * row_reads l.query.schema.now)
     × (late_of l.query.schema.now ≡ [] → l.steps ≡ l.initial.steps)
 
 abbrev pub decreases-loop-row : goal.decreases-loop-row
