@@ -1,5 +1,4 @@
--- one step of an expanded state
-mod Trials
+-- the turn of an entry
 mod Within
 -- bounds on probes
 mod Bounds

@@ -1,5 +1,7 @@
 -- Whether a state is new: what the noted sets say of it, and what they are after it.
-use Rattle.std.proofs.Common.{◌≡◌, ◌⊎◌, ◌↔◌, ◌<◌, ◌≤◌, ℕ, Bool, true, false, IsTrue, List, [], ◌∷◌, length, get_or, drop, Any, Contains, Option, Some, None, refl, sym, ap, ◌∙◌, subst, inl, inr, arith}
+use Rattle.std.proofs.Common.{◌≡◌, ◌⊎◌, ◌↔◌, ◌<◌, ◌≤◌, ℕ, Bool, true, false, IsTrue, List, [], ◌∷◌, length}
+use Rattle.std.proofs.Common.{get_or, drop, Any, Contains, Option, Some, None, refl, sym, ap, ◌∙◌, subst, inl}
+use Rattle.std.proofs.Common.{inr, arith}
 use Rattle.std.proofs.lemmas.Bool.{cases_Bool, false≢true}
 use Rattle.std.specs.Prelude.{bytes_eq, is_some}
 use Rattle.pl_task.specs.declared.data.Atom.{Atom}
@@ -11,7 +13,8 @@ use Rattle.pl_registry.specs.Novelty.{IsNovel}
 use Rattle.pl_registry.specs.Registered.{Register, registered_at, Finds}
 use Rattle.pl_registry.specs.Held.{states_held}
 use Rattle.pl_registry.proofs.Holding.{held_is_known}
-use Rattle.pl_registry.proofs.Lists.{Contains-nil, Contains-cons_cases, Contains-cons_first, Contains-cons_rest}
+use Rattle.pl_registry.proofs.Lists.{Contains-nil, Contains-cons_cases, Contains-cons_first}
+use Rattle.pl_registry.proofs.Lists.{Contains-cons_rest}
 use Rattle.pl_novel.specs.AtomSets.{key_of, IsSetOf}
 use Rattle.pl_novel.specs.Keys.{atom_by}
 use Rattle.pl_novel.specs.Noting.{Noted, IsNoted, HasNewSet, NotesState, FollowsNoted}
@@ -42,13 +45,16 @@ noted_or_not : (sets : List (List Atom)) (set : List Atom) → Contains sets set
 noted_or_not [] set = inr (Contains-nil set)
 noted_or_not (s ∷ sets) set = here (set_same_or_not s set) (noted_or_not sets set)
   where
-    here : (s ≡ set) ⊎ (s ≡ set → ⊥) → Contains sets set ⊎ (Contains sets set → ⊥) → Contains (s ∷ sets) set ⊎ (Contains (s ∷ sets) set → ⊥)
+    here : (s ≡ set) ⊎ (s ≡ set → ⊥) → Contains sets set ⊎ (Contains sets set → ⊥) → Contains (s ∷ sets) set
+        ⊎ (Contains (s ∷ sets) set → ⊥)
     here (inl e) rest = inl (subst (Contains (s ∷ sets)) e (Contains-cons_first s sets))
     here (inr d) (inl there) = inl (Contains-cons_rest s sets set there)
-    here (inr d) (inr none) = inr (λ h. elim (Contains-cons_cases s sets set h) [ inl e ↦ d e | inr there ↦ none there ])
+    here (inr d) (inr none) =
+        inr (λ h. elim (Contains-cons_cases s sets set h) [ inl e ↦ d e | inr there ↦ none there ])
 
 -- where a state has no set that is not noted, noting it changes nothing of what is seen
-stale_unseen : (task : Task) (seen : List State) (s : State) (old new : Noted) → AreSetsSeen task old seen → (HasNewSet task old s → ⊥) → NotesState task s old new →
+stale_unseen : (task : Task) (seen : List State) (s : State) (old new : Noted) → AreSetsSeen task old seen
+    → (HasNewSet task old s → ⊥) → NotesState task s old new →
     AreSetsSeen task new seen
 stale_unseen task seen s old new sets stale notes set = (to, from)
   where
@@ -60,26 +66,33 @@ stale_unseen task seen s old new sets stale notes set = (to, from)
     ]
 
     to : IsNoted new set → Any (λ t. IsSetOf task new.width t set) seen
-    to h = subst (λ w. Any (λ t. IsSetOf task w t set) seen) (sym notes.same_width) ((sets set).0 (noted ((notes.sets_are set).0 h)))
+    to h = subst (λ w. Any (λ t. IsSetOf task w t set) seen) (sym notes.same_width)
+        ((sets set).0 (noted ((notes.sets_are set).0 h)))
 
     from : Any (λ t. IsSetOf task new.width t set) seen → IsNoted new set
-    from h = (notes.sets_are set).1 (inl ((sets set).1 (subst (λ w. Any (λ t. IsSetOf task w t set) seen) notes.same_width h)))
+    from h = (notes.sets_are set).1
+        (inl ((sets set).1 (subst (λ w. Any (λ t. IsSetOf task w t set) seen) notes.same_width h)))
 
 module _ (task : Task) (k : ℕ) (now : Register) (words : List ℕ) (before after : Sieve) (answer : Bool)
-    (novel : NewSetsAreNovel task) (yes_where : IsTrue answer ↔ HasNewSet task before.novelty (state_in task words))
-    (noting : NotesState task (state_in task words) before.novelty after.novelty) (notes : NotesSeen task k (states_held task now) before.novelty) where
+    (novel : NewSetsAreNovel task)
+    (yes_where : IsTrue answer ↔ HasNewSet task before.novelty (state_in task words))
+    (noting : NotesState task (state_in task words) before.novelty after.novelty)
+    (notes : NotesSeen task k (states_held task now) before.novelty) where
   same_width : after.novelty.width ≡ k
   same_width = noting.same_width ∙ notes.width
 
-  pub found_new : NotingIsSeeing task → answer ≡ true → after.left_out ≡ before.left_out → IsFoundNew task k now words before after
+  pub found_new : NotingIsSeeing task → answer ≡ true → after.left_out ≡ before.left_out
+      → IsFoundNew task k now words before after
   found_new seeing met same = record {
     novel = subst (λ w. IsNovel task w (states_held task now) (state_in task words)) notes.width
-        ((novel before.novelty (states_held task now) (state_in task words) notes.some notes.few notes.sets).0 (yes_where.0 met));
+        ((novel before.novelty (states_held task now) (state_in task words) notes.some notes.few notes.sets).0
+        (yes_where.0 met));
     notes = record {
       width = same_width;
       some = (let a = noting.same_width in let b = notes.some in omega (arith, a, b));
       few = (let a = noting.same_width in let b = notes.few in omega (arith, a, b));
-      sets = (seeing before.novelty after.novelty (states_held task now) (state_in task words) notes.sets noting).1;
+      sets = (seeing before.novelty after.novelty (states_held task now)
+          (state_in task words) notes.sets noting).1;
     };
     same = same;
   }
@@ -87,7 +100,8 @@ module _ (task : Task) (k : ℕ) (now : Register) (words : List ℕ) (before aft
   none_new : answer ≡ false → HasNewSet task before.novelty (state_in task words) → ⊥
   none_new missed h = false≢true (sym missed ∙ yes_where.1 h)
 
-  pub found_stale : answer ≡ false → TellsHeld now words before.left_out after.left_out → IsFoundStale task k now words before after
+  pub found_stale : answer ≡ false → TellsHeld now words before.left_out after.left_out
+      → IsFoundStale task k now words before after
   found_stale missed told = record {
     stale = λ is. none_new missed
         ((novel before.novelty (states_held task now) (state_in task words) notes.some notes.few notes.sets).1
@@ -96,13 +110,15 @@ module _ (task : Task) (k : ℕ) (now : Register) (words : List ℕ) (before aft
       width = same_width;
       some = (let a = noting.same_width in let b = notes.some in omega (arith, a, b));
       few = (let a = noting.same_width in let b = notes.few in omega (arith, a, b));
-      sets = stale_unseen task (states_held task now) (state_in task words) before.novelty after.novelty notes.sets (none_new missed) noting;
+      sets = stale_unseen task (states_held task now) (state_in task words) before.novelty after.novelty
+          notes.sets (none_new missed) noting;
     };
     told = told;
   }
 
 -- a first state that is seen
-pub first_seen : (task : Task) (k : ℕ) (s : State) (old new : Noted) → NotingIsSeeing task → NothingIsSeen task → 1 ≤ k → k ≤ 2 → old.width ≡ k → old.sets ≡ [] →
+pub first_seen : (task : Task) (k : ℕ) (s : State) (old new : Noted) → NotingIsSeeing task
+    → NothingIsSeen task → 1 ≤ k → k ≤ 2 → old.width ≡ k → old.sets ≡ [] →
     NotesState task s old new → NotesSeen task k (s ∷ []) new
 first_seen task k s old new seeing none low high width sets noting = record {
   width = noting.same_width ∙ width;
@@ -112,23 +128,30 @@ first_seen task k s old new seeing none low high width sets noting = record {
 }
 
 -- the step of a state seen leads to the state, so that it follows one whose sets are all noted
-pub follows_seen : (task : Task) (k : ℕ) (now : Register) (noted : Noted) (n : ℕ) (step : Instance) (from next : List ℕ) → from ≡ (registered_at now.entries n).words → n < length now.entries →
-    state_in task next ≡ result_of task (state_in task from) step → NotesSeen task k (states_held task now) noted → FollowsNoted task noted (state_in task next) step
+pub follows_seen : (task : Task) (k : ℕ) (now : Register) (noted : Noted) (n : ℕ) (step : Instance)
+    (from next : List ℕ) → from ≡ (registered_at now.entries n).words → n < length now.entries →
+    state_in task next ≡ result_of task (state_in task from) step
+    → NotesSeen task k (states_held task now) noted → FollowsNoted task noted (state_in task next) step
 follows_seen task k now noted n step from next read there leads notes = record {
   parent = state_in task from;
   leads = leads;
-  parent_noted = λ set is. (let (i, l, e) = held_is_known task now from n (there, sym read) in (notes.sets set).1 (i, state_in task from, l, e, is));
+  parent_noted = λ set is.
+      (let (i, l, e) = held_is_known task now from n (there, sym read) in
+      (notes.sets set).1 (i, state_in task from, l, e, is));
 }
 
 -- a state was left out before
-pub told_before : (now : Register) (words : List ℕ) (before : Bool) → before ≡ true → TellsHeld now words before before
+pub told_before : (now : Register) (words : List ℕ) (before : Bool) → before ≡ true
+    → TellsHeld now words before before
 told_before now words before met = inr (inr (met, met))
 
 -- whether a state is registered, as it was looked up
-pub told_unheld : (now : Register) (words : List ℕ) (before : Bool) (found : Option ℕ) → Finds now words found → is_some found ≡ false → TellsHeld now words before true
+pub told_unheld : (now : Register) (words : List ℕ) (before : Bool) (found : Option ℕ) → Finds now words found
+    → is_some found ≡ false → TellsHeld now words before true
 told_unheld now words before (Some i) finds is = absurd (false≢true (sym is))
 told_unheld now words before None finds is = inr (inl (finds, refl))
 
-pub told_held : (now : Register) (words : List ℕ) (before : Bool) (found : Option ℕ) → Finds now words found → is_some found ≡ true → TellsHeld now words before before
+pub told_held : (now : Register) (words : List ℕ) (before : Bool) (found : Option ℕ) → Finds now words found
+    → is_some found ≡ true → TellsHeld now words before before
 told_held now words before (Some i) finds is = inl (i, finds, refl)
 told_held now words before None finds is = absurd (false≢true is)

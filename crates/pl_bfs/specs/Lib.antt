@@ -3,7 +3,6 @@ pub mod Breadth
 -- what width search answers and what it leaves
 pub mod Width
 -- what its parts promise each other
-pub mod Trying
 pub mod UnderWay
 pub mod Sifting
 -- the task of tests

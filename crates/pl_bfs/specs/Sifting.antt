@@ -1,5 +1,7 @@
--- What a width search keeps of the states that it has registered and left out, and what its parts promise each other.
-use Rattle.std.specs.Prelude.{◌≡◌, ◌⊎◌, ℕ, suc, ◌≤◌, Bool, true, false, IsFalse, List, [], ◌∷◌, ◌++◌, Contains, Option, Some, None, Result, Ok, Err}
+-- What a width search keeps of the states that it has registered and left out, and what its parts promise
+-- each other.
+use Rattle.std.specs.Prelude.{◌≡◌, ◌⊎◌, ℕ, suc, ◌≤◌, Bool, true, false, IsFalse, List, [], ◌∷◌, ◌++◌}
+use Rattle.std.specs.Prelude.{Contains, Option, Some, None, Result, Ok, Err}
 use Rattle.pl_task.specs.declared.task.Task.{Task}
 use Rattle.pl_task.specs.Instance.{Instance}
 use Rattle.pl_task.specs.States.{State, initial}
@@ -19,7 +21,7 @@ use Rattle.pl_registry.specs.Held.{states_held, HoldsBetweenTurns, HoldsInTurn}
 use Rattle.pl_novel.specs.Noting.{Noted}
 use Rattle.pl_novel.specs.Laws.{AreSetsSeen}
 use Rattle.pl_bfs.specs.declared.sieve.Sieve.{Sieve}
-use Rattle.pl_bfs.specs.Trying.{target_of, IsReached, IsLeftOut, IsTakenIn, IsTurnedAway}
+use Rattle.pl_hooks.specs.Trying.{target_of, IsReached, IsLeftOut, IsTakenIn, IsTurnedAway}
 use Rattle.pl_bfs.specs.Width.{EndsByWidth, IsWidthBrokenOff}
 
 -- under width k, which is 1 or 2, noted are the sets of the states seen, and no others
@@ -29,19 +31,23 @@ pub record NotesSeen (task : Task) (k : ℕ) (seen : List State) (noted : Noted)
   pub few : noted.width ≤ 2
   pub sets : AreSetsSeen task noted seen
 
--- whether a state that is left out is registered is told: where it is, or one that isn't was left out before, nothing changes
+-- whether a state that is left out is registered is told: where it is, or one that isn't was left out before,
+-- nothing changes
 abbrev pub TellsHeld : Register → List ℕ → Bool → Bool → Type 0
 TellsHeld now words before after =
-    ((i : ℕ) × IsHeldAs now words i × (after ≡ before)) ⊎ (((IsHeld now words → ⊥) × (after ≡ true)) ⊎ ((before ≡ true) × (after ≡ true)))
+    ((i : ℕ) × IsHeldAs now words i × (after ≡ before))
+    ⊎ (((IsHeld now words → ⊥) × (after ≡ true)) ⊎ ((before ≡ true) × (after ≡ true)))
 
 -- the state is new, and seen now
-pub record IsFoundNew (task : Task) (k : ℕ) (now : Register) (words : List ℕ) (before after : Sieve) : Type 0 where
+pub record IsFoundNew (task : Task) (k : ℕ) (now : Register) (words : List ℕ)
+    (before after : Sieve) : Type 0 where
   pub novel : IsNovel task k (states_held task now) (state_in task words)
   pub notes : NotesSeen task k (states_held task now ++ state_in task words ∷ []) after.novelty
   pub same : after.left_out ≡ before.left_out
 
 -- the state is not new
-pub record IsFoundStale (task : Task) (k : ℕ) (now : Register) (words : List ℕ) (before after : Sieve) : Type 0 where
+pub record IsFoundStale (task : Task) (k : ℕ) (now : Register) (words : List ℕ)
+    (before after : Sieve) : Type 0 where
   pub stale : IsStale task k (states_held task now) (state_in task words)
   pub notes : NotesSeen task k (states_held task now) after.novelty
   pub told : TellsHeld now words before.left_out after.left_out
@@ -69,7 +75,8 @@ module _ (task : Task) (k : ℕ) (old new : Register) (before after : Sieve) (n 
   abbrev pub TriesNew : {E : Type 0} → Result (Option Outcome) E → Type 0
   TriesNew (Ok None) = IsSiftedOut ⊎ IsSiftedIn
   TriesNew (Ok (Some (outcome.Found plan))) = IsReached task old new n step plan
-  TriesNew (Ok (Some outcome.Limit)) = IsTurnedAway (IsNovel task k (states_held task old)) task old new n step
+  TriesNew (Ok (Some outcome.Limit)) = IsTurnedAway (IsNovel task k (states_held task old)) task old new n
+      step
   TriesNew (Ok (Some outcome.Unsolvable)) = ⊥
   TriesNew (Err e) = new ≡ old
 
@@ -95,17 +102,20 @@ module _ (task : Task) (k : ℕ) (first : Register) where
     pub limit : now.limit ≡ first.limit
 
   -- the same within the turn of entry n, of whose steps these are left
-  pub record IsSiftedWithin (now : Register) (n : ℕ) (left : List Instance) (generated : ℕ) (sieve : Sieve) : Type 0 where
+  pub record IsSiftedWithin (now : Register) (n : ℕ) (left : List Instance) (generated : ℕ)
+      (sieve : Sieve) : Type 0 where
     pub no_goal : IsFalse (is_goal task (initial task))
     pub turn : HoldsInTurn task (space_of task) (IsStale task k) (IsNovel task k) now n left generated
     pub told : TellsLeftOut task k turn.of sieve.left_out
     pub notes : NotesSeen task k (states_held task now) sieve.novelty
     pub limit : now.limit ≡ first.limit
 
-  -- after the turn of entry n the search goes on with the next one, or has ended within the turn, or memory ran out
+  -- after the turn of entry n the search goes on with the next one, or has ended within the turn, or memory
+  -- ran out
   abbrev pub AfterSiftedTurn : {E : Type 0} → Register → ℕ → ℕ → Sieve → Result (Option Ended) E → Type 0
   AfterSiftedTurn new n generated sieve (Ok None) = IsSiftedBetween new (suc n) generated sieve
-  AfterSiftedTurn new n generated sieve (Ok (Some ended)) = EndsByWidth task k first new (ending_of ended.outcome) ended.stats
+  AfterSiftedTurn new n generated sieve (Ok (Some ended)) = EndsByWidth task k first new
+      (ending_of ended.outcome) ended.stats
   AfterSiftedTurn new n generated sieve (Err e) = IsWidthBrokenOff task k first new
 
 -- how a search ends that has no state left: whether states were left out decides

@@ -15,22 +15,30 @@ use Rattle.pl_bfs.specs.Breadth.{MayDrop, MayKeep, IsBreadth, IsBrokenOff}
 -- an outcome with counts
 abbrev pub ended_by : Outcome → ℕ → ℕ → ℕ → Ended
 ended_by outcome states expanded generated =
-    record { outcome = outcome; stats = record { states = states; expanded = expanded; generated = generated } }
+    record {
+      outcome = outcome;
+      stats =
+          record { states = states; expanded = expanded; generated = generated };
+    }
 
-module _ {F : Type 0} (calls : Shared F (Bor (List ℕ) × Unit {0}) Bool) (task : Task) (cut : F) (old : Register) where
+module _ {F : Type 0} (calls : Shared F (Bor (List ℕ) × Unit {0}) Bool) (task : Task) (cut : F)
+    (old : Register) where
   -- the entries below n were expanded, in order, and all their pairs tried
   pub record IsBetween (now : Register) (n generated : ℕ) : Type 0 where
     pub uncut : IsUncutSearch (space_of task) (MayKeep calls task cut)
-    pub turns : HoldsBetweenTurns task (space_of task) (λ _. MayDrop calls task cut) (λ _. MayKeep calls task cut) now n generated
+    pub turns : HoldsBetweenTurns task (space_of task) (λ _. MayDrop calls task cut)
+        (λ _. MayKeep calls task cut) now n generated
     pub limit : now.limit ≡ old.limit
 
   -- the same within the turn of entry n, of whose steps these are left
   pub record IsWithin (now : Register) (n : ℕ) (left : List Instance) (generated : ℕ) : Type 0 where
     pub uncut : IsUncutSearch (space_of task) (MayKeep calls task cut)
-    pub turn : HoldsInTurn task (space_of task) (λ _. MayDrop calls task cut) (λ _. MayKeep calls task cut) now n left generated
+    pub turn : HoldsInTurn task (space_of task) (λ _. MayDrop calls task cut)
+        (λ _. MayKeep calls task cut) now n left generated
     pub limit : now.limit ≡ old.limit
 
-  -- after the turn of entry n the search goes on with the next one, or has ended within the turn, or memory ran out
+  -- after the turn of entry n the search goes on with the next one, or has ended within the turn, or memory
+  -- ran out
   abbrev pub AfterTurn : {E : Type 0} → Register → ℕ → ℕ → Result (Option Ended) E → Type 0
   AfterTurn new n generated (Ok None) = IsBetween new (suc n) generated
   AfterTurn new n generated (Ok (Some ended)) = IsBreadth calls task cut old new ended

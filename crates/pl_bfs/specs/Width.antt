@@ -18,8 +18,10 @@ ending_of_width outcome.Unsolvable = Unsolvable
 ending_of_width outcome.Exhausted = Exhausted
 ending_of_width outcome.Limit = Limit
 
--- the search ended so, and the registry holds exactly the entries of the record that has this ending under the registry's limit
-pub record EndsByWidth (task : Task) (k : ℕ) (old new : Register) (ending : Ending) (stats : Stats) : Type 0 where
+-- the search ended so, and the registry holds exactly the entries of the record that has this ending under
+-- the registry's limit
+pub record EndsByWidth (task : Task) (k : ℕ) (old new : Register) (ending : Ending)
+    (stats : Stats) : Type 0 where
   pub of : SearchRecord
   pub is : IsWidthEnding (space_of task) task k old.limit of ending stats
   pub holds : entries_of task new ≡ of.entries

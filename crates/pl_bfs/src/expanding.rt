@@ -10,9 +10,8 @@ ghost use Rattle.pl_registry.specs.Registered.{Register, IsRegister};
 ghost use Rattle.pl_hooks.specs.Sound.{IsSoundCut};
 ghost use Rattle.pl_bfs.specs.UnderWay.{IsBetween, AfterTurn, ended_by};
 
-use crate::trying::try_step;
 use pl_gen::Prepared;
-use pl_hooks::Pruner;
+use pl_hooks::{Pruner, try_step};
 use pl_normal::NormalTask;
 use pl_registry::{Ended, Outcome, Registry, Stats};
 use pl_state::{GoalTest, Packed};
@@ -20,8 +19,8 @@ use pl_steps::Steps;
 use std::alloc::{AllocError, Global};
 use std::sync::ledger::Ledger;
 
-/// Tries the applicable steps of entry `n`, the first one that wasn't expanded, until the search ends or none is
-/// left. Each one is counted. The only error is want of memory.
+/// Tries the applicable steps of entry `n`, the first one that wasn't expanded, until the search ends or none
+/// is left. Each one is counted. The only error is want of memory.
 ///
 /// Where all schemas are acyclic it takes at most the bound of the entry's state on probes.
 pub(crate) fn expand<L: Ledger, F: Fn(&Packed) -> bool>(

@@ -3,8 +3,8 @@
 //! What they answer and what they leave of their registry stands in `specs/Breadth.antt` and
 //! `specs/Width.antt`, over the records and endings of `pl_registry`. They stand on the steps that `pl_gen`
 //! gives, and never speak of tables. `breadth` runs the turns of the entries, `expand` a turn, and `try_step`
-//! makes one step of it. `width`, `expand_new` and `try_new` do the same with a `Sieve` in place of a pruner:
-//! it leaves out the states that aren't new under the width.
+//! of `pl_hooks` makes one step of it. `width`, `expand_new` and `try_new` do the same with a `Sieve` in
+//! place of a pruner: it leaves out the states that aren't new under the width.
 #![tactic(auto)]
 
 mod expanding;
@@ -12,7 +12,6 @@ mod new_expanding;
 mod new_trying;
 mod searching;
 mod sieve;
-mod trying;
 mod width_ended;
 mod width_search;
 

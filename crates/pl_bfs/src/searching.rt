@@ -15,14 +15,16 @@ use pl_task::List;
 use std::alloc::{AllocError, Global};
 use std::sync::ledger::Ledger;
 
-/// Searches for a plan: states are registered in the order in which they are reached, and expanded in the order of
-/// their numbers. A successor that the pruner drops isn't registered. A goal state ends the search as soon as it is
-/// reached. So the plan that is found is the first, step by step in the order of steps, of all plans with the
-/// fewest steps.
+/// Searches for a plan: states are registered in the order in which they are reached, and expanded in the
+/// order of their numbers. A successor that the pruner drops isn't registered. A goal state ends the search
+/// as soon as it is reached. So the plan that is found is the first, step by step in the order of steps, of
+/// all plans with the fewest steps.
 ///
-/// The registry holds the initial state alone, and gives the limit on states. The only error is want of memory.
+/// The registry holds the initial state alone, and gives the limit on states. The only error is want of
+/// memory.
 ///
-/// Where all schemas are acyclic it takes at most as many probes as the bounds of the expanded states come to.
+/// Where all schemas are acyclic it takes at most as many probes as the bounds of the expanded states come
+/// to.
 pub fn breadth<L: Ledger, F: Fn(&Packed) -> bool>(
     alloc: Global,
     normal: &NormalTask<'_>,

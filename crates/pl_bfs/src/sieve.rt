@@ -45,8 +45,8 @@ impl Sieve {
         })
     }
 
-    /// Whether the state that a step of a state seen leads to is new under the width. Then it is seen from now
-    /// on. Where it isn't new, whether it is registered is told, unless a state was left out before.
+    /// Whether the state that a step of a state seen leads to is new under the width. Then it is seen from
+    /// now on. Where it isn't new, whether it is registered is told, unless a state was left out before.
     pub(crate) fn is_new(
         &mut self,
         task: &Task,

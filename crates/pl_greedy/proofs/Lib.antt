@@ -1,7 +1,6 @@
--- one step of an expanded state
-mod Trials
 -- the states that wait
 mod Queueing
+-- the turn of an entry
 mod Within
 -- bounds on probes
 mod Bounds

@@ -1,4 +1,5 @@
--- The states that wait to be expanded: a heap of keys, one for each state, greater the earlier it is expanded.
+-- The states that wait to be expanded: a heap of keys, one for each state, greater the earlier it is
+-- expanded.
 use Rattle.std.specs.Prelude.{◌≡◌, ℕ, ◌+◌, ◌*◌, ◌-◌, ◌^◌, ◌%◌, List, ◌++◌, map, length, All}
 use Rattle.std.specs.BinaryHeap.{IsHeap}
 use Rattle.std.specs.Ordering.{nat_cmp}
@@ -18,7 +19,8 @@ number_of key = ((2 ^ 64 - 1) - key) % 2 ^ 32
 
 -- the key stands for an entry, with the rank of its state
 abbrev pub IsKey : Task → Register → ℕ → Type 0
-IsKey task now key = key + (unmet task (state_at task now (number_of key)) * 2 ^ 32 + number_of key) ≡ 2 ^ 64 - 1
+IsKey task now key = key + (unmet task (state_at task now (number_of key)) * 2 ^ 32 + number_of key) ≡ 2 ^
+    64 - 1
 
 -- the entries are those that were expanded, and those that wait
 pub record IsQueued (task : Task) (now : Register) (past keys : List ℕ) : Type 0 where

@@ -11,16 +11,15 @@ ghost use Rattle.pl_hooks.specs.Sound.{IsSoundCut, IsUnmetCount};
 ghost use Rattle.pl_greedy.specs.UnderWay.{Attempts, IsMoreKeys};
 
 use crate::keys::key;
-use crate::trying::try_step;
-use pl_hooks::{Pruner, Ranker};
+use pl_hooks::{Pruner, Ranker, try_step};
 use pl_registry::{Outcome, Registry};
 use pl_state::{GoalTest, Packed};
 use pl_task::{StepRef, Task};
 use std::alloc::{AllocError, Global};
 use std::collections::BinaryHeap;
 
-/// Tries a step of entry `n`. The state that it registers is ranked, once, and waits to be expanded. The only error
-/// is want of memory.
+/// Tries a step of entry `n`. The state that it registers is ranked, once, and waits to be expanded. The only
+/// error is want of memory.
 pub(crate) fn attempt<F: Fn(&Packed) -> u32, G: Fn(&Packed) -> bool>(
     alloc: Global,
     task: &Task,
@@ -67,7 +66,8 @@ pub(crate) fn admit<F: Fn(&Packed) -> u32>(
     requires number { n < length registry.now.entries }
     requires ranked { ranker.now.task.now ≡ task.now }
     requires counts { IsUnmetCount F.Fn task.now ranker.now.rank }
-    ensures { OnOk result (IsMoreKeys task.now registry.now n (heap_items waiting.old) (heap_items waiting.new)) }
+    ensures { OnOk result
+        (IsMoreKeys task.now registry.now n (heap_items waiting.old) (heap_items waiting.new)) }
 {
     let rank = ranker.rank(registry.state(n));
     waiting.push(key(rank, n))?;

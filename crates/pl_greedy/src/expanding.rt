@@ -22,8 +22,9 @@ use std::alloc::{AllocError, Global};
 use std::collections::BinaryHeap;
 use std::sync::ledger::Ledger;
 
-/// Tries the applicable steps of entry `n`, the first in rank of those that weren't expanded, until the search ends
-/// or none is left. `expanded` entries were expanded before. Each step is counted. The only error is want of memory.
+/// Tries the applicable steps of entry `n`, the first in rank of those that weren't expanded, until the
+/// search ends or none is left. `expanded` entries were expanded before. Each step is counted. The only error
+/// is want of memory.
 ///
 /// Where all schemas are acyclic it takes at most the bound of the entry's state on probes.
 pub(crate) fn expand<L: Ledger, F: Fn(&Packed) -> u32, G: Fn(&Packed) -> bool>(

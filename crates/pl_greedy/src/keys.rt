@@ -3,7 +3,8 @@
 ghost use Rattle.std.specs.Prelude.{◌≡◌};
 ghost use Rattle.pl_greedy.specs.Queue.{key_of, number_of};
 
-/// The key of a state with a rank and a number. It is greater for a lower rank, and among equals for a lower number.
+/// The key of a state with a rank and a number. It is greater for a lower rank, and among equals for a lower
+/// number.
 pub(crate) fn key(rank: u32, n: u32) -> u64
     ensures { result ≡ key_of rank n }
 {

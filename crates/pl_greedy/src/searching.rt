@@ -19,13 +19,15 @@ use std::alloc::{AllocError, Global};
 use std::collections::BinaryHeap;
 use std::sync::ledger::Ledger;
 
-/// Searches for a plan: of the registered states that weren't expanded, the one with the fewest unmet goal literals,
-/// and among equals the one with the least number, is expanded next. A successor that the pruner drops isn't
-/// registered. A goal state ends the search as soon as it is reached.
+/// Searches for a plan: of the registered states that weren't expanded, the one with the fewest unmet goal
+/// literals, and among equals the one with the least number, is expanded next. A successor that the pruner
+/// drops isn't registered. A goal state ends the search as soon as it is reached.
 ///
-/// The registry holds the initial state alone, and gives the limit on states. The only error is want of memory.
+/// The registry holds the initial state alone, and gives the limit on states. The only error is want of
+/// memory.
 ///
-/// Where all schemas are acyclic it takes at most as many probes as the bounds of the expanded states come to.
+/// Where all schemas are acyclic it takes at most as many probes as the bounds of the expanded states come
+/// to.
 pub fn greedy<L: Ledger, F: Fn(&Packed) -> u32, G: Fn(&Packed) -> bool>(
     alloc: Global,
     normal: &NormalTask<'_>,

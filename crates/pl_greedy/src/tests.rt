@@ -27,8 +27,8 @@ enum Wanted {
     Limit,
 }
 
-/// So many places, whether a literal is wanted that no step can reach, the limit on states, and how the search is
-/// to end.
+/// So many places, whether a literal is wanted that no step can reach, the limit on states, and how the
+/// search is to end.
 struct Case {
     count: u32,
     back: bool,
@@ -211,8 +211,9 @@ fn definition(alloc: Global, arity: u32, is_static: bool) -> PredicateDef
     }
 }
 
-/// The task with so many places, of which place 0 is linked to place 1. Its goal is to be at place 1, said twice, and
-/// that all is done, that 0 is linked to 1, and that 1 isn't linked to 0; or that it is, which no step can reach.
+/// The task with so many places, of which place 0 is linked to place 1. Its goal is to be at place 1, said
+/// twice, and that all is done, that 0 is linked to 1, and that 1 isn't linked to 0; or that it is, which no
+/// step can reach.
 fn places(alloc: Global, count: u32, back: bool) -> Result<Task, AllocError>
     requires { 2 ≤ count }
 {

@@ -15,11 +15,14 @@ use Rattle.pl_hooks.proofs.DeadEnds.{hopeless_reaches_no_goal}
 use Rattle.pl_hooks.proofs.Deciding.{is_hopeless-decides}
 
 -- a closure that says which states are hopeless cuts only states from which no goal is reachable
-pub hopeless_cut_is_sound : {F : Type 0} (calls : Shared F (Bor (List ℕ) × Unit {0}) Bool) (task : Task) (cut : F) → IsHopelessCut calls task cut → IsSoundCut calls task cut
+pub hopeless_cut_is_sound : {F : Type 0} (calls : Shared F (Bor (List ℕ) × Unit {0}) Bool) (task : Task)
+    (cut : F) → IsHopelessCut calls task cut → IsSoundCut calls task cut
 hopeless_cut_is_sound calls task cut h = record {
   callable = h.callable;
-  sound = λ s is returned. hopeless_reaches_no_goal task (state_in task s) ((h.answers s true is returned).0 refl);
-  one_answer = λ s is yes_returned no_returned. false≢true ((h.answers s false is no_returned).1 ((h.answers s true is yes_returned).0 refl));
+  sound = λ s is returned. hopeless_reaches_no_goal task (state_in task s)
+      ((h.answers s true is returned).0 refl);
+  one_answer = λ s is yes_returned no_returned. false≢true
+      ((h.answers s false is no_returned).1 ((h.answers s true is yes_returned).0 refl));
 }
 
 -- from what the test of hopeless states cuts no goal state is reachable
@@ -28,7 +31,8 @@ hopeless_dead_ends task s cut = hopeless_reaches_no_goal task s ((is_hopeless-de
 
 module _ {F : Type 0} (calls : Shared F (Bor (List ℕ) × Unit {0}) Bool) (task : Task) (cut : F)
     (h : IsHopelessCut calls task cut) where
-  -- what such a closure lets a search drop is what the test cuts, and what it lets it keep is what the test keeps
+  -- what such a closure lets a search drop is what the test cuts, and what it lets it keep is what the test
+  -- keeps
   pub drops_hopeless : (s : State) → MayDrop calls task cut s → IsCut (is_hopeless task) s
   drops_hopeless s (words, is, same, says) =
       subst (IsCut (is_hopeless task)) same
@@ -38,7 +42,8 @@ module _ {F : Type 0} (calls : Shared F (Bor (List ℕ) × Unit {0}) Bool) (task
   keeps_hopeful s (words, is, same, says) =
       subst (IsKept (is_hopeless task)) same (kept (cases_Bool (is_hopeless task (state_in task words))))
     where
-      kept : (is_hopeless task (state_in task words) ≡ true) ⊎ (is_hopeless task (state_in task words) ≡ false) →
+      kept : (is_hopeless task (state_in task words) ≡ true)
+          ⊎ (is_hopeless task (state_in task words) ≡ false) →
           is_hopeless task (state_in task words) ≡ false
       kept (inl hopeless) =
           absurd (false≢true ((h.answers words false is says).1

@@ -1,5 +1,7 @@
 -- The test of hopeless states decides which states are hopeless.
-use Rattle.std.proofs.Common.{◌≡◌, ◌↔◌, ◌⊎◌, ℕ, zero, suc, Bool, true, false, not, cond, ◌||◌, ◌==◌, IsTrue, List, [], ◌∷◌, length, get_or, Some, None, slice_get, All, refl, sym, ap, ◌∙◌, inl, inr, arith, eqb-true, eq-eqb}
+use Rattle.std.proofs.Common.{◌≡◌, ◌↔◌, ◌⊎◌, ℕ, zero, suc, Bool, true, false, not, cond, ◌||◌, ◌==◌, IsTrue}
+use Rattle.std.proofs.Common.{List, [], ◌∷◌, length, get_or, Some, None, slice_get, All, refl, sym, ap, ◌∙◌}
+use Rattle.std.proofs.Common.{inl, inr, arith, eqb-true, eq-eqb}
 use Rattle.std.specs.List.{list_all}
 use Rattle.std.proofs.lemmas.Bool.{and_parts, and_from, or_cases, false≢true, cases_Bool}
 use Rattle.std.proofs.lemmas.List.Folds.{Any-from_list_any, list_any-from_Any}

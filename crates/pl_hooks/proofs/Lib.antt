@@ -8,5 +8,7 @@ pub mod StuckLemmas
 pub mod Deciding
 -- closures that are fit for a pruner
 pub mod Cuts
+-- for searches: one step of an expanded state
+pub mod Trials
 -- the task of the tests
 pub mod TwinLemmas

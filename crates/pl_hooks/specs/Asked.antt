@@ -8,8 +8,10 @@ use Rattle.pl_task.specs.States.{State}
 use Rattle.pl_state.specs.StateOf.{state_in, IsStateOf}
 
 -- the closure may answer this of the packed state
-abbrev pub MayAnswer : {F : Type 0} → Shared F (Bor (List ℕ) × Unit {0}) Bool → Task → F → Bool → State → Type 0
-MayAnswer calls task cut answer s = (words : List ℕ) × IsStateOf task words × (state_in task words ≡ s) × FnReturnsAt calls cut words answer
+abbrev pub MayAnswer : {F : Type 0} → Shared F (Bor (List ℕ) × Unit {0}) Bool → Task → F → Bool → State
+    → Type 0
+MayAnswer calls task cut answer s = (words : List ℕ) × IsStateOf task words × (state_in task words ≡ s)
+    × FnReturnsAt calls cut words answer
 
 -- a state may be dropped only where the closure may say yes, and kept only where it may say no
 abbrev pub MayDrop : {F : Type 0} → Shared F (Bor (List ℕ) × Unit {0}) Bool → Task → F → State → Type 0

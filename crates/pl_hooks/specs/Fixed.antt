@@ -1,5 +1,6 @@
 -- Goal literals whose atoms no effect could change, and what of them is decided once a task.
-use Rattle.std.specs.Prelude.{◌≡◌, ◌↔◌, ℕ, Bool, true, false, cond, IsTrue, List, Some, slice_get, Contains, All}
+use Rattle.std.specs.Prelude.{◌≡◌, ◌↔◌, ℕ, Bool, true, false, cond, IsTrue, List, Some, slice_get, Contains}
+use Rattle.std.specs.Prelude.{All}
 use Rattle.pl_task.specs.declared.data.GoalLiteral.{GoalLiteral}
 use Rattle.pl_task.specs.declared.data.Schema.{Schema}
 use Rattle.pl_task.specs.declared.data.Term.{Term}
@@ -12,7 +13,8 @@ use Rattle.pl_state.specs.StateOf.{is_fluent_in}
 -- the constant at the place is the object there, and places with its parameter have one object
 pub record FitsAt (terms : List Term) (objects : List ℕ) (i : ℕ) : Type 0 where
   pub constant : (n : ℕ) → slice_get terms i ≡ Some (term.Object n) → slice_get objects i ≡ Some n
-  pub same : (j n : ℕ) → slice_get terms i ≡ Some (term.Parameter n) → slice_get terms j ≡ Some (term.Parameter n) →
+  pub same : (j n : ℕ) → slice_get terms i ≡ Some (term.Parameter n)
+      → slice_get terms j ≡ Some (term.Parameter n) →
       slice_get objects i ≡ slice_get objects j
 
 -- at each place with the parameter there is this object
@@ -23,7 +25,8 @@ HasObject terms objects n object =
 -- no effect could change the literal's atom: no add where it is wanted, no delete where it is unwanted
 abbrev pub IsFixed : Task → GoalLiteral → Type 0
 IsFixed task g =
-    All (λ (schema : Schema). All (λ effect. CouldGive effect g.atom → ⊥) (cond g.wanted schema.add schema.delete)) task.schemas
+    All (λ (schema : Schema). All (λ effect. CouldGive effect g.atom → ⊥)
+    (cond g.wanted schema.add schema.delete)) task.schemas
 
 -- what a test of states knows of the goal: whether a literal is lost, and the numbers of the held ones
 pub record FixedGoal : Type 0 where

@@ -33,4 +33,11 @@ abbrev pub nobody : Parameter
 nobody = record { name = []; types = 1 ∷ [] }
 
 abbrev pub twin : Schema
-twin = record { name = []; parameters = nobody ∷ []; condition = []; delete = twice ∷ []; add = twice ∷ marked ∷ [] }
+twin = record {
+  name = [];
+  parameters = nobody ∷ [];
+  condition = [];
+  delete = twice ∷ [];
+  add =
+      twice ∷ marked ∷ [];
+}

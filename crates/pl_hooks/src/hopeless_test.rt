@@ -34,8 +34,8 @@ impl Model for HopelessTest {
 }
 
 impl HopelessTest {
-    /// The test for the states of the task. It goes over the schemas once for each literal of the goal, and sorts
-    /// the static atoms. The only error is want of memory.
+    /// The test for the states of the task. It goes over the schemas once for each literal of the goal, and
+    /// sorts the static atoms. The only error is want of memory.
     pub fn of(alloc: Global, task: &Task) -> Result<HopelessTest, AllocError>
         ensures { IfOk result (IsFixedGoal task.now) }
     {

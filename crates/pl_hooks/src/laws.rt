@@ -6,13 +6,15 @@ ghost use Rattle.pl_hooks.specs.Sound.{IsHopelessCut, IsSoundCut};
 use pl_state::Packed;
 use pl_task::Task;
 
-/// A goal literal that is not met, and whose atom no effect could change, is met in no state that is reached from here.
+/// A goal literal that is not met, and whose atom no effect could change, is met in no state that is reached
+/// from here.
 pub fn hopeless_reaches_no_goal(_task: &Task)
     ensures none { HopelessStatesReachNoGoal _task.now }
 {}
 
-/// The test by which a search cuts says yes exactly for the hopeless states: those with a goal literal that is not met, and whose
-/// atom no effect could change. Types are not looked at, and a parameter stands for one object at all its places.
+/// The test by which a search cuts says yes exactly for the hopeless states: those with a goal literal that
+/// is not met, and whose atom no effect could change. Types are not looked at, and a parameter stands for one
+/// object at all its places.
 pub fn hopeless_states_are_tested(_task: &Task)
     ensures tested { HopelessStatesAreTested _task.now }
 {}

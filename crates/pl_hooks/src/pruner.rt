@@ -33,7 +33,8 @@ impl<'t, F: Fn(&Packed) -> bool> Pruner<'t, F> {
         requires sound { IsSoundCut F.Fn self.now.task.now self.now.cut }
         requires state { IsStateOf self.now.task.now state.now }
         ensures answers { FnReturnsAt F.Fn self.now.cut state.now result }
-        ensures sound { IsTrue result → ReachesNoGoal self.now.task.now (state_in self.now.task.now state.now) }
+        ensures sound { IsTrue result → ReachesNoGoal self.now.task.now
+            (state_in self.now.task.now state.now) }
     {
         (self.cut)(state)
     }

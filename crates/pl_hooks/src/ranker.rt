@@ -8,7 +8,8 @@ ghost use Rattle.pl_hooks.specs.Sound.{IsUnmetCount};
 use pl_state::Packed;
 use pl_task::Task;
 
-/// A closure that counts the goal literals that are not met in a packed state, with the task whose literals they are.
+/// A closure that counts the goal literals that are not met in a packed state, with the task whose literals
+/// they are.
 #[derive(Drop)]
 pub struct Ranker<'t, F> {
     task: &'t Task,

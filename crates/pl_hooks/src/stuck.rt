@@ -9,7 +9,8 @@ use crate::fixed::is_fixed;
 use pl_state::{Packed, holds};
 use pl_task::{GoalLiteral, Task};
 
-/// Whether the state is hopeless: no effect could change the atom of some literal of the goal that is not met.
+/// Whether the state is hopeless: no effect could change the atom of some literal of the goal that is not
+/// met.
 ///
 /// It goes over the schemas, so a search asks a `HopelessTest`.
 pub fn hopeless(task: &Task, state: &Packed) -> bool

@@ -166,8 +166,8 @@ fn definition(alloc: Global, arity: u32, is_static: bool) -> PredicateDef
     }
 }
 
-/// The task with so many places, of which place 0 is linked to place 1. Its goal is to be at place 1, said twice, and that
-/// all is done, that 0 is linked to 1, and that 1 isn't linked to 0.
+/// The task with so many places, of which place 0 is linked to place 1. Its goal is to be at place 1, said
+/// twice, and that all is done, that 0 is linked to 1, and that 1 isn't linked to 0.
 fn places(alloc: Global, count: u32) -> Result<Task, AllocError>
     requires { 2 ≤ count }
 {

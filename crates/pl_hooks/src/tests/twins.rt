@@ -19,8 +19,8 @@ struct HopelessCase {
     hopeless: bool,
 }
 
-/// Predicate 0 is `pair`, 1 the static `link`, and 2 `mark`, with one object. The schema deletes `(pair ?x ?x)`,
-/// and adds it with `(mark ?x)`, for an `?x` of a type that no object has.
+/// Predicate 0 is `pair`, 1 the static `link`, and 2 `mark`, with one object. The schema deletes `(pair ?x
+/// ?x)`, and adds it with `(mark ?x)`, for an `?x` of a type that no object has.
 const CASES: &[HopelessCase] = &[
     HopelessCase {
         predicate: 1,

@@ -14,11 +14,13 @@ invariant-loop-step g l =
     record {
       number : l.n < length l.registry.entries;
       steps : All (IsStep l.normal) l.walk.left;
-      way : (first : Register) → IsBetween g.F.Fn l.normal l.pruner.cut first l.initial.registry l.n l.initial.generated
+      way : (first : Register) → IsBetween g.F.Fn l.normal l.pruner.cut first l.initial.registry l.n
+          l.initial.generated
           → IsWithin g.F.Fn l.normal l.pruner.cut first l.registry l.n l.walk.left l.generated;
       kept : KeepsEntries l.initial.registry l.registry;
       cost : AreAcyclic l.normal →
-          l.steps + l.walk.reads ≤ l.fn.steps + probe_bound l.normal (state_at l.normal l.initial.registry l.n);
+          l.steps + l.walk.reads ≤ l.fn.steps + probe_bound l.normal
+          (state_at l.normal l.initial.registry l.n);
       rise : l.fn.steps ≤ l.steps;
     }
 

@@ -5,7 +5,7 @@ use Rattle.pl_state.specs.StateOf.{IsStateOf}
 use Rattle.pl_registry.specs.Registered.{Registered}
 use Rattle.pl_registry.specs.Held.{states_held}
 use Rattle.pl_bfs.specs.Sifting.{NotesSeen}
-use Rattle.pl_bfs.proofs.Within.{all_steps, lent, given, given_is_step, others_are_steps}
+use Rattle.pl_gen.proofs.Lent.{all_steps, lent, given, given_is_step, others_are_steps}
 use Rattle.pl_bfs.proofs.SiftedTurns.{tried_as, refused, still_there, begun, over, failed, onward, ends}
 use Rattle.pl_registry.specs.declared.ended.Ended.{Ended}
 use Rattle.pl_registry.proofs.Bounds.{kept_all, kept_on, begun_within}
@@ -17,11 +17,15 @@ pub loop-step-init : goal.loop-step-init
 loop-step-init g c =
     record {
       number = c.requires.number;
-      steps = all_steps c.args.normal.now c.state.result.now c.in_ok-prepared.prepared c.walk-walk.result.left c.in_ok-prepared.ensures.prepared c.walk-walk.ensures.left;
-      way = λ k first h. begun c.args.normal.now k first c.args.n c.args.registry.now c.args.generated.now c.args.sieve.now c.state.result.now c.in_ok-prepared.prepared
-          c.walk-walk.result.left h c.requires.number c.state.ensures c.in_ok-prepared.ensures.prepared c.walk-walk.ensures.left;
+      steps = all_steps c.args.normal.now c.state.result.now c.in_ok-prepared.prepared c.walk-walk.result.left
+          c.in_ok-prepared.ensures.prepared c.walk-walk.ensures.left;
+      way = λ k first h. begun c.args.normal.now k first c.args.n c.args.registry.now c.args.generated.now
+          c.args.sieve.now c.state.result.now c.in_ok-prepared.prepared
+          c.walk-walk.result.left h c.requires.number c.state.ensures c.in_ok-prepared.ensures.prepared
+          c.walk-walk.ensures.left;
       kept = kept_all c.args.registry.now;
-      cost = λ acyclic. begun_within c.args.normal.now c.args.registry.now c.args.n c.state.result.now _ _ (walk_reads c.in_ok-prepared.prepared) _
+      cost = λ acyclic. begun_within c.args.normal.now c.args.registry.now c.args.n c.state.result.now _ _
+          (walk_reads c.in_ok-prepared.prepared) _
           c.state.ensures c.walk-walk.ensures.reads (c.in_ok-prepared.ensures.cost acyclic);
       rise = c.in_ok-prepared.ensures.rise;
     }
@@ -30,76 +34,110 @@ pub try_new-requires-clause-states : goal.try_new-requires-clause-states
 try_new-requires-clause-states g c =
     let (k, first, way) = c.requires.way in
     let within = c.loop-step.invariant.way k first way in
-    subst (λ (t : Task). All (λ (e : Registered). IsStateOf t e.words) c.loop-step.registry.entries) (sym c.task.ensures) within.turn.holds.states
+    subst (λ (t : Task). All (λ (e : Registered). IsStateOf t e.words) c.loop-step.registry.entries)
+    (sym c.task.ensures) within.turn.holds.states
 
 pub try_new-requires-clause-step : goal.try_new-requires-clause-step
 try_new-requires-clause-step g c =
-    let gives = given c.loop-step.walk c.next.follows.lender-at-none c.next.result c.in-Some.step c.in-Some.is c.next.follows.holds-at-none.0 in
+    let gives = given c.loop-step.walk c.next.follows.lender-at-none c.next.result c.in-Some.step c.in-Some.is
+    c.next.follows.holds-at-none.0 in
     subst (λ (t : Task). IsStep t (lent c.in-Some.step)) (sym c.task.ensures)
-    (given_is_step c.args.normal.now c.loop-step.walk c.next.follows.lender-at-none (lent c.in-Some.step) c.loop-step.invariant.steps gives)
+    (given_is_step c.args.normal.now c.loop-step.walk c.next.follows.lender-at-none
+    (lent c.in-Some.step) c.loop-step.invariant.steps gives)
 
 pub try_new-requires-clause-seen : goal.try_new-requires-clause-seen
 try_new-requires-clause-seen g c =
     let (k, first, way) = c.requires.way in
-    let within = c.loop-step.invariant.way k first way in
-    (k, subst (λ (t : Task). NotesSeen t k (states_held t c.loop-step.registry) c.loop-step.sieve.novelty) (sym c.task.ensures) within.notes)
+    let within = c.loop-step.invariant.way k first way in (
+      k,
+      subst (λ (t : Task). NotesSeen t k (states_held t c.loop-step.registry) c.loop-step.sieve.novelty)
+          (sym c.task.ensures) within.notes,
+    )
 
 pub returns-in_err-outcome-clause-turn : goal.returns-in_err-outcome-clause-turn
 returns-in_err-outcome-clause-turn g c = λ k first h.
     let w = c.loop-step.invariant.way k first h in
-    failed c.args.normal.now k first c.args.n c.loop-step.registry c.try_new.new.registry c.loop-step.walk.left c.loop-step.generated c.saturating_add.result c.loop-step.sieve c.try_new.new.sieve
+    failed c.args.normal.now k first c.args.n c.loop-step.registry c.try_new.new.registry
+    c.loop-step.walk.left c.loop-step.generated c.saturating_add.result c.loop-step.sieve
+    c.try_new.new.sieve
     c.from_residual-in_err-outcome.result c.from_residual-in_err-outcome.ensures.0
-    (refused c.args.normal.now c.task.result.now k c.loop-step.registry c.try_new.new.registry c.loop-step.sieve c.try_new.new.sieve c.args.n (lent c.in-Some.step) c.task.ensures w.notes c.in_err-outcome.ensures.tries) w
+    (refused c.args.normal.now c.task.result.now k c.loop-step.registry c.try_new.new.registry
+    c.loop-step.sieve c.try_new.new.sieve c.args.n (lent c.in-Some.step) c.task.ensures w.notes
+    c.in_err-outcome.ensures.tries) w
 
 pub returns-in-Some-2-clause-turn : goal.returns-in-Some-2-clause-turn
 returns-in-Some-2-clause-turn g c = λ k first h.
     let w = c.loop-step.invariant.way k first h in
-    let gives = given c.loop-step.walk c.next.follows.lender-at-none c.next.result c.in-Some.step c.in-Some.is c.next.follows.holds-at-none.0 in
-    let tried = tried_as c.args.normal.now c.task.result.now k c.loop-step.registry c.try_new.new.registry c.loop-step.sieve c.try_new.new.sieve c.args.n (lent c.in-Some.step)
-    c.in_ok-outcome.field-0 (Some c.in-Some-2.outcome) c.task.ensures c.in-Some-2.is w.notes (c.in_ok-outcome.ensures.tries k) in
-    ends c.args.normal.now k first c.args.n c.loop-step.registry c.try_new.new.registry c.loop-step.sieve c.try_new.new.sieve (lent c.in-Some.step)
-    c.next.follows.lender-at-none.left c.loop-step.walk.left c.loop-step.generated c.saturating_add.result w gives.left c.saturating_add.ensures
+    let gives = given c.loop-step.walk c.next.follows.lender-at-none c.next.result c.in-Some.step c.in-Some.is
+    c.next.follows.holds-at-none.0 in
+    let tried = tried_as c.args.normal.now c.task.result.now k c.loop-step.registry c.try_new.new.registry
+    c.loop-step.sieve c.try_new.new.sieve c.args.n (lent c.in-Some.step)
+    c.in_ok-outcome.field-0 (Some c.in-Some-2.outcome) c.task.ensures c.in-Some-2.is w.notes
+    (c.in_ok-outcome.ensures.tries k) in
+    ends c.args.normal.now k first c.args.n c.loop-step.registry c.try_new.new.registry c.loop-step.sieve
+    c.try_new.new.sieve (lent c.in-Some.step)
+    c.next.follows.lender-at-none.left c.loop-step.walk.left c.loop-step.generated c.saturating_add.result w
+    gives.left c.saturating_add.ensures
     c.in-Some-2.outcome c.ended.result c.ended.ensures.ended c.ended.ensures.register tried
 
 pub loop-step-preserved : goal.loop-step-preserved
 loop-step-preserved g c =
-    let gives = given c.loop-step.walk c.next.follows.lender-at-none c.next.result c.in-Some.step c.in-Some.is c.next.follows.holds-at-none.0 in
+    let gives = given c.loop-step.walk c.next.follows.lender-at-none c.next.result c.in-Some.step c.in-Some.is
+    c.next.follows.holds-at-none.0 in
     let (k, first, h) = c.requires.way in
-    let tried = tried_as c.args.normal.now c.task.result.now k c.loop-step.registry c.try_new.new.registry c.loop-step.sieve c.try_new.new.sieve c.args.n (lent c.in-Some.step)
-    c.in_ok-outcome.field-0 None c.task.ensures c.in_default-2.is (c.loop-step.invariant.way k first h).notes (c.in_ok-outcome.ensures.tries k) in
+    let tried = tried_as c.args.normal.now c.task.result.now k c.loop-step.registry c.try_new.new.registry
+    c.loop-step.sieve c.try_new.new.sieve c.args.n (lent c.in-Some.step)
+    c.in_ok-outcome.field-0 None c.task.ensures c.in_default-2.is (c.loop-step.invariant.way k first h).notes
+    (c.in_ok-outcome.ensures.tries k) in
     record {
-      number = still_there c.args.normal.now k c.loop-step.registry c.try_new.new.registry c.loop-step.sieve c.try_new.new.sieve c.args.n (lent c.in-Some.step) tried c.loop-step.invariant.number;
-      steps = others_are_steps c.args.normal.now c.loop-step.walk c.next.follows.lender-at-none (lent c.in-Some.step) c.loop-step.invariant.steps gives;
-      way = λ k first h. onward c.args.normal.now k first c.args.n c.loop-step.registry c.try_new.new.registry c.loop-step.sieve c.try_new.new.sieve (lent c.in-Some.step)
-          c.next.follows.lender-at-none.left c.loop-step.walk.left c.loop-step.generated c.saturating_add.result (c.loop-step.invariant.way k first h) gives.left c.saturating_add.ensures
-          (tried_as c.args.normal.now c.task.result.now k c.loop-step.registry c.try_new.new.registry c.loop-step.sieve c.try_new.new.sieve c.args.n (lent c.in-Some.step)
-          c.in_ok-outcome.field-0 None c.task.ensures c.in_default-2.is (c.loop-step.invariant.way k first h).notes (c.in_ok-outcome.ensures.tries k));
+      number = still_there c.args.normal.now k c.loop-step.registry c.try_new.new.registry c.loop-step.sieve
+          c.try_new.new.sieve c.args.n (lent c.in-Some.step) tried c.loop-step.invariant.number;
+      steps = others_are_steps c.args.normal.now c.loop-step.walk c.next.follows.lender-at-none
+          (lent c.in-Some.step) c.loop-step.invariant.steps gives;
+      way = λ k first h. onward c.args.normal.now k first c.args.n c.loop-step.registry c.try_new.new.registry
+          c.loop-step.sieve c.try_new.new.sieve (lent c.in-Some.step)
+          c.next.follows.lender-at-none.left c.loop-step.walk.left c.loop-step.generated
+          c.saturating_add.result (c.loop-step.invariant.way k first h) gives.left
+          c.saturating_add.ensures
+          (tried_as c.args.normal.now c.task.result.now k c.loop-step.registry c.try_new.new.registry
+          c.loop-step.sieve c.try_new.new.sieve c.args.n (lent c.in-Some.step)
+          c.in_ok-outcome.field-0 None c.task.ensures c.in_default-2.is
+          (c.loop-step.invariant.way k first h).notes (c.in_ok-outcome.ensures.tries k));
       kept = kept_on c.loop-step.invariant.kept
-          (sifted_keeps c.args.normal.now k c.loop-step.registry c.try_new.new.registry c.loop-step.sieve c.try_new.new.sieve c.args.n (lent c.in-Some.step) None tried);
-      cost = λ acyclic. (let so_far = c.loop-step.invariant.cost acyclic in let turn = c.next.follows.holds-at-none.1 in omega (arith, so_far, turn));
+          (sifted_keeps c.args.normal.now k c.loop-step.registry c.try_new.new.registry c.loop-step.sieve
+          c.try_new.new.sieve c.args.n (lent c.in-Some.step) None tried);
+      cost = λ acyclic.
+          (let so_far = c.loop-step.invariant.cost acyclic in let turn = c.next.follows.holds-at-none.1 in
+          omega (arith, so_far, turn));
       rise = omega (arith, c.loop-step.invariant.rise, c.next.ensures.rise);
     }
 
 pub returns-clause-turn : goal.returns-clause-turn
 returns-clause-turn g c = λ k first h.
-    over c.args.normal.now k first c.args.n c.loop-step.registry c.loop-step.walk.left c.loop-step.generated c.loop-step.sieve c.in_default.ensures.none
+    over c.args.normal.now k first c.args.n c.loop-step.registry c.loop-step.walk.left c.loop-step.generated
+    c.loop-step.sieve c.in_default.ensures.none
     (c.loop-step.invariant.way k first h)
 
 pub returns-in-Some-2-clause-kept : goal.returns-in-Some-2-clause-kept
 returns-in-Some-2-clause-kept g c =
     let (k, first, h) = c.requires.way in
-    let tried = tried_as c.args.normal.now c.task.result.now k c.loop-step.registry c.try_new.new.registry c.loop-step.sieve c.try_new.new.sieve c.args.n (lent c.in-Some.step)
-    c.in_ok-outcome.field-0 (Some c.in-Some-2.outcome) c.task.ensures c.in-Some-2.is (c.loop-step.invariant.way k first h).notes (c.in_ok-outcome.ensures.tries k) in
+    let tried = tried_as c.args.normal.now c.task.result.now k c.loop-step.registry c.try_new.new.registry
+    c.loop-step.sieve c.try_new.new.sieve c.args.n (lent c.in-Some.step)
+    c.in_ok-outcome.field-0 (Some c.in-Some-2.outcome) c.task.ensures c.in-Some-2.is
+    (c.loop-step.invariant.way k first h).notes (c.in_ok-outcome.ensures.tries k) in
     kept_on c.loop-step.invariant.kept
-    (sifted_keeps c.args.normal.now k c.loop-step.registry c.try_new.new.registry c.loop-step.sieve c.try_new.new.sieve c.args.n (lent c.in-Some.step) (Some c.in-Some-2.outcome) tried)
+    (sifted_keeps c.args.normal.now k c.loop-step.registry c.try_new.new.registry c.loop-step.sieve
+    c.try_new.new.sieve c.args.n (lent c.in-Some.step) (Some c.in-Some-2.outcome) tried)
 
 pub returns-in-Some-2-clause-counted : goal.returns-in-Some-2-clause-counted
 returns-in-Some-2-clause-counted g c = ap (λ (e : Ended). e.stats.expanded) c.ended.ensures.ended
 
 pub returns-in-Some-2-clause-cost : goal.returns-in-Some-2-clause-cost
 returns-in-Some-2-clause-cost g c = λ acyclic.
-    (let so_far = c.loop-step.invariant.cost acyclic in let turn = c.next.follows.holds-at-none.1 in omega (arith, so_far, turn))
+    (let so_far = c.loop-step.invariant.cost acyclic in let turn = c.next.follows.holds-at-none.1 in
+    omega (arith, so_far, turn))
 
 pub returns-clause-cost : goal.returns-clause-cost
 returns-clause-cost g c = λ acyclic.
-    (let so_far = c.loop-step.invariant.cost acyclic in let turn = c.next.follows.holds-at-none.1 in omega (arith, so_far, turn))
+    (let so_far = c.loop-step.invariant.cost acyclic in let turn = c.next.follows.holds-at-none.1 in
+    omega (arith, so_far, turn))

@@ -16,11 +16,14 @@ invariant-loop-step g l =
       number : l.n < length l.registry.entries;
       steps : All (IsStep l.normal) l.walk.left;
       way : (first : Register) (past : List ℕ) →
-          IsChosen g.G.Fn l.normal l.pruner.cut first l.initial.registry past (heap_items l.initial.waiting) l.n l.expanded l.initial.generated →
-          IsWithin g.G.Fn l.normal l.pruner.cut first l.registry past (heap_items l.waiting) l.n l.walk.left l.expanded l.generated;
+          IsChosen g.G.Fn l.normal l.pruner.cut first l.initial.registry past
+          (heap_items l.initial.waiting) l.n l.expanded l.initial.generated →
+          IsWithin g.G.Fn l.normal l.pruner.cut first l.registry past
+          (heap_items l.waiting) l.n l.walk.left l.expanded l.generated;
       kept : KeepsEntries l.initial.registry l.registry;
       cost : AreAcyclic l.normal →
-          l.steps + l.walk.reads ≤ l.fn.steps + probe_bound l.normal (state_at l.normal l.initial.registry l.n);
+          l.steps + l.walk.reads ≤ l.fn.steps + probe_bound l.normal
+          (state_at l.normal l.initial.registry l.n);
       rise : l.fn.steps ≤ l.steps;
     }
 

@@ -7,7 +7,8 @@ use Rattle.pl_greedy.proofs.searching.greedy.Given as goal
 abbrev pub invariant-loop-first : goal.invariant-loop-first
 invariant-loop-first g l =
     record {
-      way : IsInBounds g.G.Fn l.normal l.pruner.cut l.initial.registry l.registry (heap_items l.waiting) l.expanded l.generated l.fn.steps l.steps;
+      way : IsInBounds g.G.Fn l.normal l.pruner.cut l.initial.registry l.registry
+          (heap_items l.waiting) l.expanded l.generated l.fn.steps l.steps;
       rise : l.fn.steps ≤ l.steps;
     }
 

@@ -5,7 +5,8 @@ use Rattle.pl_hooks.specs.Sound.{IsUnmetCount}
 use Rattle.pl_greedy.proofs.tests.is_met.Goals as goal
 
 -- what a closure counts for a task it counts for the same one
-counts_so : {F : Type 0} (calls : Shared F (Bor (List ℕ) × Unit {0}) ℕ) (task same : Task) (rank : F) → task ≡ same →
+counts_so : {F : Type 0} (calls : Shared F (Bor (List ℕ) × Unit {0}) ℕ) (task same : Task) (rank : F)
+    → task ≡ same →
     IsUnmetCount calls task rank → IsUnmetCount calls same rank
 counts_so calls task same rank is h = subst (λ (t : Task). IsUnmetCount calls t rank) is h
 

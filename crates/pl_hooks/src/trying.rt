@@ -6,17 +6,18 @@ ghost use Rattle.pl_state.specs.StateOf.{IsStateOf};
 ghost use Rattle.pl_state.specs.Decided.{IsDecidedGoal};
 ghost use Rattle.pl_registry.specs.Registered.{Registered};
 ghost use Rattle.pl_hooks.specs.Sound.{IsSoundCut};
-ghost use Rattle.pl_greedy.specs.Trying.{Tries};
+ghost use Rattle.pl_hooks.specs.Trying.{Tries};
 
-use pl_hooks::Pruner;
+use crate::Pruner;
 use pl_registry::{Outcome, Refused, Registry};
 use pl_state::{GoalTest, Packed, apply};
 use pl_task::{StepRef, Task};
 use std::alloc::{AllocError, Global};
 
-/// Makes the state that the step of entry `n` leads to. A goal state ends the search with the plan that leads there,
-/// and a state that is to be registered ends it where the registry is full. The only error is want of memory.
-pub(crate) fn try_step<F: Fn(&Packed) -> bool>(
+/// Makes the state that the step of entry `n` leads to. A goal state ends the search with the plan that leads
+/// there, and a state that is to be registered ends it where the registry is full. The only error is want of
+/// memory.
+pub fn try_step<F: Fn(&Packed) -> bool>(
     alloc: Global,
     task: &Task,
     goal: &GoalTest,
