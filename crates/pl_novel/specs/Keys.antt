@@ -1,5 +1,7 @@
 -- How the noted sets lie in memory: the keys of the single atoms, and pairs of numbers of these.
-use Rattle.std.specs.Prelude.{◌≡◌, ◌≢◌, ◌↔◌, ◌⊎◌, ℕ, zero, suc, Bool, nat_lt, ◌==◌, ◌||◌, ◌<◌, ◌≤◌, true, List, [], ◌∷◌, ◌++◌, map, length, Option, Some, None, slice_get, slice_index, slice_index_or, All, AllPairs, Contains, bytes_eq, if◌then◌else◌}
+use Rattle.std.specs.Prelude.{◌≡◌, ◌≢◌, ◌↔◌, ◌⊎◌, ℕ, zero, suc, Bool, nat_lt, ◌==◌, ◌||◌, ◌<◌, ◌≤◌, true}
+use Rattle.std.specs.Prelude.{List, [], ◌∷◌, ◌++◌, map, length, Option, Some, None, slice_get, slice_index}
+use Rattle.std.specs.Prelude.{slice_index_or, All, AllPairs, Contains, bytes_eq, if◌then◌else◌}
 use Rattle.std.specs.List.{flat_map}
 use Rattle.std.specs.declared.cmp.Ordering.TheVariants.{Less}
 use Rattle.indexmap.specs.IndexSet.{insert_all}
@@ -82,24 +84,29 @@ pub record IsKeyBelow (task : Task) (s : State) (n predicate : ℕ) (objects : L
 pub record AreKeysBelow (task : Task) (s : State) (n : ℕ) (keys : List (List ℕ)) : Type 0 where
   pub ascending : IsAscending keys
   pub atoms : All (λ key. 0 < length key) keys
-  pub members : (predicate : ℕ) (objects : List ℕ) → Contains keys (predicate ∷ objects) ↔ IsKeyBelow task s n predicate objects
+  pub members : (predicate : ℕ) (objects : List ℕ) → Contains keys (predicate ∷ objects)
+      ↔ IsKeyBelow task s n predicate objects
 
--- the key stands in the new list at this place, which is that of the old one with the key behind it unless it is there
+-- the key stands in the new list at this place, which is that of the old one with the key behind it unless it
+-- is there
 pub record IsPlaced (old : List (List ℕ)) (key : List ℕ) (new : List (List ℕ)) (place : ℕ) : Type 0 where
   pub new_is : new ≡ with_all old (key ∷ [])
   pub within : place < length new
   pub reads : key_at new place ≡ key
 
 -- the keys were put behind the old ones, and their numbers behind the old numbers
-pub record AreNumbered (old : List (List ℕ)) (numbers : List ℕ) (keys new : List (List ℕ)) (more : List ℕ) : Type 0 where
+pub record AreNumbered (old : List (List ℕ)) (numbers : List ℕ) (keys new : List (List ℕ))
+    (more : List ℕ) : Type 0 where
   pub added : List ℕ
   pub new_is : new ≡ with_all old keys
   pub more_is : more ≡ numbers ++ added
   pub within : All (λ n. n < length new) added
   pub reads : map (key_at new) added ≡ keys
 
--- the keys of the state's fluent atoms of predicates below n were put behind the old ones; these are their numbers
-pub record AreStateNumbers (task : Task) (s : State) (n : ℕ) (old new : List (List ℕ)) (numbers : List ℕ) : Type 0 where
+-- the keys of the state's fluent atoms of predicates below n were put behind the old ones; these are their
+-- numbers
+pub record AreStateNumbers (task : Task) (s : State) (n : ℕ) (old new : List (List ℕ))
+    (numbers : List ℕ) : Type 0 where
   pub keys : List (List ℕ)
   pub of_state : AreKeysBelow task s n keys
   pub numbered : AreNumbered old [] keys new numbers
@@ -128,7 +135,8 @@ keys_added task step = keys_added_by step.args (slice_get task.schemas step.sche
 -- the pairs of a number with the others of the list, in the order of the list
 abbrev pub pairs_around : List ℕ → ℕ → List (List ℕ)
 pairs_around [] n = []
-pairs_around (m ∷ numbers) n = if m == n then map (pair_of n) numbers else pair_of m n ∷ pairs_around numbers n
+pairs_around (m ∷ numbers) n = if m == n then map (pair_of n) numbers else pair_of m n ∷ pairs_around numbers
+    n
 
 -- the same for each of these numbers
 abbrev pub pairs_with : List ℕ → List ℕ → List (List ℕ)
@@ -141,7 +149,8 @@ pub record NotesSingles (width : ℕ) (added old_keys old_pairs keys pairs : Lis
   pub pairs_are : pairs ≡ old_pairs
 
 -- and then those of the state, and the pairs that have one of the former behind the old pairs
-pub record NotesDoubles (task : Task) (s : State) (width : ℕ) (added old_keys old_pairs keys pairs : List (List ℕ)) : Type 0 where
+pub record NotesDoubles (task : Task) (s : State) (width : ℕ)
+    (added old_keys old_pairs keys pairs : List (List ℕ)) : Type 0 where
   pub high : 2 ≤ width
   pub between : List (List ℕ)
   pub added_numbers : List ℕ
@@ -153,4 +162,5 @@ pub record NotesDoubles (task : Task) (s : State) (width : ℕ) (added old_keys 
 -- what noting the sets that have one of these atoms comes to, by the width
 abbrev pub NotesAdded : Task → State → ℕ → (added old_keys old_pairs keys pairs : List (List ℕ)) → Type 0
 NotesAdded task s width added old_keys old_pairs keys pairs =
-    NotesSingles width added old_keys old_pairs keys pairs ⊎ NotesDoubles task s width added old_keys old_pairs keys pairs
+    NotesSingles width added old_keys old_pairs keys pairs
+    ⊎ NotesDoubles task s width added old_keys old_pairs keys pairs

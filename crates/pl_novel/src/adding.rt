@@ -16,9 +16,9 @@ use pl_state::Packed;
 use pl_task::{Lifted, StepRef, Task};
 use std::alloc::{AllocError, Global};
 
-/// Puts the atoms that the step adds behind the others, those aside that are there. Under width 2 it does so with the
-/// state's other atoms, too, and puts each pair that has an added atom behind the others. `numbers` and `added` are
-/// room for the numbers of the state's atoms and of the added ones.
+/// Puts the atoms that the step adds behind the others, those aside that are there. Under width 2 it does so
+/// with the state's other atoms, too, and puts each pair that has an added atom behind the others. `numbers`
+/// and `added` are room for the numbers of the state's atoms and of the added ones.
 pub(crate) fn note_added(
     alloc: Global,
     width: u32,
@@ -47,8 +47,8 @@ pub(crate) fn note_added(
     note_pairs_with(pairs, numbers.as_slice(), added.as_slice())
 }
 
-/// Puts the atoms that the step adds behind the others, those aside that are there, and makes `numbers` the list of
-/// their numbers, in the order of the effects.
+/// Puts the atoms that the step adds behind the others, those aside that are there, and makes `numbers` the
+/// list of their numbers, in the order of the effects.
 fn number_added(
     alloc: Global,
     atoms: &mut IndexSet<Key>,
@@ -79,7 +79,8 @@ fn number_effects(
     effects: &[Lifted],
 ) -> Result<(), AllocError>
     requires { All (λ (e : LiftedAtom). All (HasValue (length args.now)) e.terms) effects.now }
-    ensures ok { OnOk result (AreNumbered atoms.old.keys numbers.old.items (map (key_under args.now) effects.now)
+    ensures ok { OnOk result
+        (AreNumbered atoms.old.keys numbers.old.items (map (key_under args.now) effects.now)
         atoms.new.keys numbers.new.items) }
     ensures extends { Extends atoms.old.keys atoms.new.keys }
 {

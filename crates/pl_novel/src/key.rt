@@ -15,7 +15,8 @@ use std::alloc::{AllocError, Global};
 use std::hash::{Hash, Hasher};
 use std::marker::Model;
 
-/// An atom as one list of words: its predicate, then its objects. Equal, hashed and seen by contracts as these.
+/// An atom as one list of words: its predicate, then its objects. Equal, hashed and seen by contracts as
+/// these.
 #[derive(Drop)]
 pub(crate) struct Key {
     words: Vec<u32>,

@@ -19,7 +19,8 @@ use std::marker::Model;
 
 /// The sets of 1 to `width` fluent atoms that are noted. Contracts see the width and the list of these sets.
 ///
-/// An atom is noted where it has a number, and a set of two as the pair of their numbers. It keeps the allocator.
+/// An atom is noted where it has a number, and a set of two as the pair of their numbers. It keeps the
+/// allocator.
 #[derive(Drop)]
 pub struct Novelty {
     alloc: Global,
@@ -65,11 +66,12 @@ impl Novelty {
         }
     }
 
-    /// Whether a set of 1 to `k` of the state's fluent atoms is not noted; then all of them are. Where memory is wanting,
-    /// the noted sets are those that were.
+    /// Whether a set of 1 to `k` of the state's fluent atoms is not noted; then all of them are. Where memory
+    /// is wanting, the noted sets are those that were.
     pub fn note(&mut self, task: &Task, state: &Packed) -> Result<bool, AllocError>
         requires { IsStateOf task.now state.now }
-        ensures yes { IfOk result (λ answer. IsTrue answer ↔ HasNewSet task.now self.old (state_in task.now state.now)) }
+        ensures yes { IfOk result
+            (λ answer. IsTrue answer ↔ HasNewSet task.now self.old (state_in task.now state.now)) }
         ensures noted { OnOk result (NotesState task.now (state_in task.now state.now) self.old self.new) }
         ensures err { OnErr result (self.new ≡ self.old) }
         ensures sets { AreNoted self.new }
@@ -101,8 +103,8 @@ impl Novelty {
         Ok(has_grown(atoms, self.atoms.len(), doubles, self.doubles.len()))
     }
 
-    /// The same for a state that the step leads to from one whose sets are all noted. It looks only at the sets that
-    /// have an atom which the step adds: the others are sets of the state before it.
+    /// The same for a state that the step leads to from one whose sets are all noted. It looks only at the
+    /// sets that have an atom which the step adds: the others are sets of the state before it.
     pub fn note_step(
         &mut self,
         task: &Task,
@@ -113,7 +115,8 @@ impl Novelty {
         requires step { IsStep task.now (record { schema = step.schema; args = step.args.now }) }
         requires follows { FollowsNoted task.now self.old (state_in task.now state.now)
             (record { schema = step.schema; args = step.args.now }) }
-        ensures yes { IfOk result (λ answer. IsTrue answer ↔ HasNewSet task.now self.old (state_in task.now state.now)) }
+        ensures yes { IfOk result
+            (λ answer. IsTrue answer ↔ HasNewSet task.now self.old (state_in task.now state.now)) }
         ensures noted { OnOk result (NotesState task.now (state_in task.now state.now) self.old self.new) }
         ensures err { OnErr result (self.new ≡ self.old) }
         ensures sets { AreNoted self.new }

@@ -11,8 +11,8 @@ use pl_state::{Packed, Rows, true_rows};
 use pl_task::Task;
 use std::alloc::{AllocError, Global};
 
-/// Puts the fluent atoms of a state behind the others, those aside that are there, and makes `numbers` the list of their
-/// numbers, in the order of atoms.
+/// Puts the fluent atoms of a state behind the others, those aside that are there, and makes `numbers` the
+/// list of their numbers, in the order of atoms.
 pub(crate) fn number_state(
     alloc: Global,
     atoms: &mut IndexSet<Key>,
@@ -22,7 +22,9 @@ pub(crate) fn number_state(
     state: &Packed,
 ) -> Result<(), AllocError>
     requires { IsStateOf task.now state.now }
-    ensures ok { OnOk result (AreStateNumbers task.now (state_in task.now state.now) (length task.now.predicates) atoms.old.keys atoms.new.keys numbers.new.items) }
+    ensures ok { OnOk result
+        (AreStateNumbers task.now (state_in task.now state.now) (length task.now.predicates) atoms.old.keys
+        atoms.new.keys numbers.new.items) }
     ensures extends { Extends atoms.old.keys atoms.new.keys }
 {
     numbers.clear();
@@ -58,7 +60,8 @@ fn number_rows(
 ) -> Result<(), AllocError>
     requires { length rows.flat.now ≡ arity * rows.count }
     ensures ok { OnOk result (AreNumbered atoms.old.keys numbers.old.items
-        (map (λ row. predicate ∷ row) (rows_of arity rows.entry.count rows.entry.flat.now)) atoms.new.keys numbers.new.items) }
+        (map (λ row. predicate ∷ row) (rows_of arity rows.entry.count rows.entry.flat.now)) atoms.new.keys
+        numbers.new.items) }
     ensures extends { Extends atoms.old.keys atoms.new.keys }
 {
     for i in 0..rows.count {
@@ -78,8 +81,8 @@ fn row_at(flat: &[u32], width: usize, i: usize) -> &[u32]
     &flat[start..start + width]
 }
 
-/// The number of the atom with this key, which goes last if it is not there. It is looked up once if it is there, without
-/// memory.
+/// The number of the atom with this key, which goes last if it is not there. It is looked up once if it is
+/// there, without memory.
 pub(crate) fn place(
     alloc: Global,
     atoms: &mut IndexSet<Key>,

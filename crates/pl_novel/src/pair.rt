@@ -11,7 +11,8 @@ ghost use Rattle.pl_novel.specs.Keys.{pair_of};
 use std::hash::{Hash, Hasher};
 use std::marker::Model;
 
-/// The numbers of two atoms, that of the lesser atom first. Equal, hashed and seen by contracts as the list of both.
+/// The numbers of two atoms, that of the lesser atom first. Equal, hashed and seen by contracts as the list
+/// of both.
 #[derive(Drop)]
 pub(crate) struct Pair {
     first: usize,

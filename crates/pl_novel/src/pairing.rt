@@ -1,20 +1,22 @@
 //! Pairs of the numbers of a state's atoms: all of them, or those with one of some numbers.
 
 ghost use Rattle.std.specs.Prelude.{◌≡◌, map, OnOk};
-ghost use Rattle.pl_novel.specs.Keys.{pair_of, pairs_by, pairs_under, pairs_around, pairs_with, with_all, Extends};
+ghost use Rattle.pl_novel.specs.Keys.{pair_of, pairs_by, pairs_under, pairs_around, pairs_with, with_all};
+ghost use Rattle.pl_novel.specs.Keys.{Extends};
 
 use crate::pair::Pair;
 use indexmap::IndexSet;
 use std::alloc::AllocError;
 
-/// Under width 2 puts each pair of a number and a later one behind the others, those aside that are there; under width 1
-/// nothing.
+/// Under width 2 puts each pair of a number and a later one behind the others, those aside that are there;
+/// under width 1 nothing.
 pub(crate) fn note_pairs(
     width: u32,
     pairs: &mut IndexSet<Pair>,
     numbers: &[usize],
 ) -> Result<(), AllocError>
-    ensures ok { OnOk result (pairs.new.keys ≡ with_all pairs.old.keys (pairs_under width pair_of numbers.now)) }
+    ensures ok { OnOk result
+        (pairs.new.keys ≡ with_all pairs.old.keys (pairs_under width pair_of numbers.now)) }
     ensures extends { Extends pairs.old.keys pairs.new.keys }
 {
     if width < 2 {

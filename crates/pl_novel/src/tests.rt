@@ -274,8 +274,8 @@ fn definition(alloc: Global, arity: u32, is_static: bool) -> PredicateDef
     }
 }
 
-/// The task with so many places, of which place 0 is linked to place 1. Its goal is to be at place 1, said twice, and that
-/// all is done, that 0 is linked to 1, and that 1 isn't linked to 0.
+/// The task with so many places, of which place 0 is linked to place 1. Its goal is to be at place 1, said
+/// twice, and that all is done, that 0 is linked to 1, and that 1 isn't linked to 0.
 fn places(alloc: Global, count: u32) -> Result<Task, AllocError>
     requires { 2 ≤ count }
 {
@@ -356,7 +356,8 @@ fn states_are_noted(rt: HostRuntime) -> Result<(), Fail> {
     Ok(())
 }
 
-/// Whether the state that a step leads to is new, once the state before it is noted. It is not for what is no step.
+/// Whether the state that a step leads to is new, once the state before it is noted. It is not for what is no
+/// step.
 fn is_new_by(
     alloc: Global,
     task: &Task,

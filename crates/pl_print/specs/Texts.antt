@@ -1,5 +1,6 @@
 -- The texts that are printed. Each line ends with byte 10, and numbers are decimal without leading zeros.
-use Rattle.std.specs.Prelude.{ℕ, List, [], ◌∷◌, ◌++◌, Option, Some, None, length, slice_get, flat_map, codes, decimal}
+use Rattle.std.specs.Prelude.{ℕ, List, [], ◌∷◌, ◌++◌, Option, Some, None, length, slice_get, flat_map, codes}
+use Rattle.std.specs.Prelude.{decimal}
 use Rattle.pl_task.specs.declared.data.ObjectDef.{ObjectDef}
 use Rattle.pl_task.specs.declared.data.Schema.{Schema}
 use Rattle.pl_task.specs.declared.task.Task.{Task}
@@ -10,7 +11,8 @@ use Rattle.pl_check.specs.declared.role.FileRole.{FileRole}
 use Rattle.pl_check.specs.declared.role.FileRole.TheVariants.{Domain, Problem, Plan}
 use Rattle.pl_registry.specs.declared.ended.Stats.{Stats}
 use Rattle.pl_valid.specs.declared.verdict.Reason.{Reason}
-use Rattle.pl_valid.specs.declared.verdict.Reason.TheVariants.{UnknownAction, Arguments, UnknownObject, Inapplicable}
+use Rattle.pl_valid.specs.declared.verdict.Reason.TheVariants.{UnknownAction, Arguments, UnknownObject}
+use Rattle.pl_valid.specs.declared.verdict.Reason.TheVariants.{Inapplicable}
 use Rattle.pl_valid.specs.declared.verdict.Verdict.{Verdict}
 use Rattle.pl_valid.specs.declared.verdict.Verdict.TheVariants.{Valid, Invalid, GoalMissed}
 use Rattle.pl_print.specs.declared.fault.Fault.{Fault}
@@ -38,7 +40,8 @@ argument_text objects number = codes " " ++ object_name (slice_get objects numbe
 -- `(ACTION OBJECT OBJECT ..)`, with an object for each argument
 abbrev pub step_text : Task → Instance → List ℕ
 step_text task step =
-    codes "(" ++ action_name (slice_get task.schemas step.schema) ++ flat_map (argument_text task.objects) step.args ++
+    codes "(" ++ action_name (slice_get task.schemas step.schema)
+    ++ flat_map (argument_text task.objects) step.args ++
     codes ")\n"
 
 -- a line for each step, and then `; length N` with their number
@@ -68,7 +71,8 @@ reason_text Inapplicable = codes "inapplicable"
 -- `valid N`, `invalid K REASON` or `goal missed`
 abbrev pub verdict_text : Verdict → List ℕ
 verdict_text (Valid steps) = codes "valid " ++ decimal steps ++ codes "\n"
-verdict_text (Invalid line reason) = codes "invalid " ++ decimal line ++ codes " " ++ reason_text reason ++ codes "\n"
+verdict_text (Invalid line reason) = codes "invalid " ++ decimal line ++ codes " " ++ reason_text reason
+    ++ codes "\n"
 verdict_text GoalMissed = codes "goal missed\n"
 
 -- what is wrong at a place of a file
@@ -92,7 +96,8 @@ abbrev pub fault_text : Fault → List ℕ
 fault_text fault.Words = codes "powerlift: bad words\n"
 fault_text fault.NotAStep = codes "powerlift: not a step\n"
 fault_text (fault.Input file line column kind) =
-    in_turn (codes "powerlift: " ∷ role_text file ∷ codes ":" ∷ decimal line ∷ codes ":" ∷ decimal column ∷ codes ": " ∷
+    in_turn (codes "powerlift: " ∷ role_text file ∷ codes ":" ∷ decimal line ∷ codes ":" ∷ decimal
+    column ∷ codes ": " ∷
     kind_text kind ∷ codes "\n" ∷ [])
 fault_text (fault.TooLong file) = codes "powerlift: " ++ role_text file ++ codes ": too long\n"
 fault_text (fault.Read file) = codes "powerlift: cannot read " ++ role_text file ++ codes "\n"

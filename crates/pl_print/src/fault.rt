@@ -81,9 +81,11 @@ fn put_input_fault<O: Sink>(
     kind: FaultKind,
 ) -> Result<(), Failed>
     ensures all { OnOk result
-        (Appends (O.seen sink.old).written (O.seen sink.new).written (fault_text (fault.Input file line column kind))) }
+        (Appends (O.seen sink.old).written (O.seen sink.new).written
+        (fault_text (fault.Input file line column kind))) }
     ensures front { OnErr result
-        (AppendsFront (O.seen sink.old).written (O.seen sink.new).written (fault_text (fault.Input file line column kind))) }
+        (AppendsFront (O.seen sink.old).written (O.seen sink.new).written
+        (fault_text (fault.Input file line column kind))) }
     ensures cause { HasCause (O.seen sink.old).faults (O.seen sink.new).faults result }
 {
     let mut line_digits = Buffer::new();

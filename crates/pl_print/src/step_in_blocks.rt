@@ -13,8 +13,8 @@ use pl_task::{ObjectDef, StepRef, Task};
 ///
 /// # Errors
 ///
-/// `Failed` where the sink failed. Then a front of what was held back and the line was written, the rest is lost, and
-/// nothing is held back.
+/// `Failed` where the sink failed. Then a front of what was held back and the line was written, the rest is
+/// lost, and nothing is held back.
 pub fn put_step_in_blocks<O: Sink>(
     blocks: &mut Blocks,
     sink: &mut O,
@@ -22,9 +22,12 @@ pub fn put_step_in_blocks<O: Sink>(
     step: StepRef<'_>,
 ) -> Result<(), Failed>
     requires step { IsStep task.now (record { schema = step.schema; args = step.args.now }) }
-    ensures all { OnOk result (SendsOn (O.seen sink.old).written (O.seen sink.new).written (held_of blocks.old)
-        (step_text task.now (record { schema = step.entry.schema; args = step.entry.args.now })) (held_of blocks.new)) }
-    ensures front { OnErr result (AppendsFront (O.seen sink.old).written (O.seen sink.new).written (held_of blocks.old ++
+    ensures all { OnOk result
+        (SendsOn (O.seen sink.old).written (O.seen sink.new).written (held_of blocks.old)
+        (step_text task.now (record { schema = step.entry.schema; args = step.entry.args.now }))
+        (held_of blocks.new)) }
+    ensures front { OnErr result
+        (AppendsFront (O.seen sink.old).written (O.seen sink.new).written (held_of blocks.old ++
         step_text task.now (record { schema = step.entry.schema; args = step.entry.args.now }))) }
     ensures lost { OnErr result (held_of blocks.new ≡ []) }
     ensures cause { HasCause (O.seen sink.old).faults (O.seen sink.new).faults result }
@@ -44,7 +47,8 @@ fn put_arguments<O: Sink>(
     args: &[u32],
 ) -> Result<(), Failed>
     requires within { All (λ o. o < length objects.now) args.now }
-    ensures all { OnOk result (SendsOn (O.seen sink.old).written (O.seen sink.new).written (held_of blocks.old)
+    ensures all { OnOk result
+        (SendsOn (O.seen sink.old).written (O.seen sink.new).written (held_of blocks.old)
         (flat_map (argument_text objects.now) args.now) (held_of blocks.new)) }
     ensures front { OnErr result (AppendsFront (O.seen sink.old).written (O.seen sink.new).written
         (held_of blocks.old ++ flat_map (argument_text objects.now) args.now)) }
@@ -65,7 +69,8 @@ fn put_argument<O: Sink>(
     number: u32,
 ) -> Result<(), Failed>
     requires within { number < length objects.now }
-    ensures all { OnOk result (SendsOn (O.seen sink.old).written (O.seen sink.new).written (held_of blocks.old)
+    ensures all { OnOk result
+        (SendsOn (O.seen sink.old).written (O.seen sink.new).written (held_of blocks.old)
         (argument_text objects.now number) (held_of blocks.new)) }
     ensures front { OnErr result (AppendsFront (O.seen sink.old).written (O.seen sink.new).written
         (held_of blocks.old ++ argument_text objects.now number)) }

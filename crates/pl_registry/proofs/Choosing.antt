@@ -1,13 +1,16 @@
 -- Which entry is expanded next: of those whose numbers are not in a list, the first in rank. How many numbers
 -- below a bound are in the list tells how many turns there may still be.
-use Rattle.std.proofs.Common.{◌≡◌, ◌≢◌, ◌⊎◌, ◌+◌, ◌<◌, ◌≤◌, ℕ, zero, suc, Bool, true, false, ◌||◌, IsTrue, IsFalse, List, [], ◌∷◌, ◌++◌, Contains, refl, sym, ap, ◌∙◌, subst, inl, inr, arith}
+use Rattle.std.proofs.Common.{◌≡◌, ◌≢◌, ◌⊎◌, ◌+◌, ◌<◌, ◌≤◌, ℕ, zero, suc, Bool, true, false, ◌||◌, IsTrue}
+use Rattle.std.proofs.Common.{IsFalse, List, [], ◌∷◌, ◌++◌, Contains, refl, sym, ap, ◌∙◌, subst, inl, inr}
+use Rattle.std.proofs.Common.{arith}
 use Rattle.std.specs.List.{list_any}
 use Rattle.std.proofs.Math.Dec.{eqb}
 use Rattle.std.proofs.lemmas.Bool.{cases_Bool}
 use Rattle.std.proofs.lemmas.Bool.Decides.{eqb_tells}
 use Rattle.pl_task.specs.States.{State}
 use Rattle.pl_registry.specs.SearchRecord.{Entry, entry_at, Precedes}
-use Rattle.pl_registry.proofs.Lists.{Contains-nil, Contains-cons_first, Contains-cons_rest, Contains-cons_cases}
+use Rattle.pl_registry.proofs.Lists.{Contains-nil, Contains-cons_first, Contains-cons_rest}
+use Rattle.pl_registry.proofs.Lists.{Contains-cons_cases}
 use Rattle.pl_registry.proofs.Turns.{within_or_past}
 use Rattle.pl_registry.proofs.Growing.{same_or_below}
 

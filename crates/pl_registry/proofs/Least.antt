@@ -1,23 +1,31 @@
 -- Breadth-first search: entries of equal depth have their paths in order, and the plan found is the first
 -- of those with as many steps.
-use Rattle.std.proofs.Common.{◌≡◌, ◌⊎◌, ◌+◌, ◌-◌, ◌<◌, ◌≤◌, ℕ, zero, suc, IsTrue, IsFalse, List, [], ◌∷◌, ◌++◌, length, get_or, slice_index, Contains, refl, sym, ap, ◌∙◌, subst, inl, inr, arith, length-append}
+use Rattle.std.proofs.Common.{◌≡◌, ◌⊎◌, ◌+◌, ◌-◌, ◌<◌, ◌≤◌, ℕ, zero, suc, IsTrue, IsFalse, List, [], ◌∷◌}
+use Rattle.std.proofs.Common.{◌++◌, length, get_or, slice_index, Contains, refl, sym, ap, ◌∙◌, subst, inl}
+use Rattle.std.proofs.Common.{inr, arith, length-append}
 use Rattle.std.specs.Cmp.{IsTotalOrder}
 use Rattle.std.specs.declared.cmp.Ordering.{Ordering}
 use Rattle.std.specs.declared.cmp.Ordering.TheVariants.{Less}
 use Rattle.std.specs.List.Sorted.{IsStrictlySortedBy}
-use Rattle.std.proofs.lemmas.List.{get_or-map, get_or_default, get_or_at, get_or-append_right, append_assoc, length-map}
+use Rattle.std.proofs.lemmas.List.{get_or-map, get_or_default, get_or_at, get_or-append_right, append_assoc}
+use Rattle.std.proofs.lemmas.List.{length-map}
 use Rattle.pl_task.specs.Instance.{Instance}
 use Rattle.pl_task.specs.States.{State}
 use Rattle.pl_registry.specs.StateSpace.{StateSpace, LeadsTo}
 use Rattle.pl_registry.specs.Cut.{IsDeadEnd}
-use Rattle.pl_registry.specs.SearchRecord.{Entry, Pair, SearchRecord, no_step, pair_by, entry_at, pair_at, pairs_of, pairs_below, all_pairs, path_of, IsRecordUpTo}
+use Rattle.pl_registry.specs.SearchRecord.{Entry, Pair, SearchRecord, no_step, pair_by, entry_at, pair_at}
+use Rattle.pl_registry.specs.SearchRecord.{pairs_of, pairs_below, all_pairs, path_of, IsRecordUpTo}
 use Rattle.pl_registry.specs.Ending.{IsNextPair, IsFoundAt, by_number}
 use Rattle.pl_registry.specs.declared.ended.Stats.{Stats}
-use Rattle.pl_registry.proofs.Turns.{step_in_turn, turn_within, turn_behind, turn_before, same_before, within_or_past}
-use Rattle.pl_registry.proofs.Entries.{entries_many, first_state, maker, made_within, made_in, made_in-rises, pair_is, pairs_fit, parent_lower, path_grows, turns_in_order}
+use Rattle.pl_registry.proofs.Turns.{step_in_turn, turn_within, turn_behind, turn_before, same_before}
+use Rattle.pl_registry.proofs.Turns.{within_or_past}
+use Rattle.pl_registry.proofs.Entries.{entries_many, first_state, maker, made_within, made_in, made_in-rises}
+use Rattle.pl_registry.proofs.Entries.{pair_is, pairs_fit, parent_lower, path_grows, turns_in_order}
 use Rattle.pl_registry.proofs.Plans.{goal_or_not, next_tried, entry_no_goal, onward}
-use Rattle.pl_registry.proofs.PlanOrder.{sorted_read, IsBefore, IsUpTo, before_more, before_up_to, up_to_same, up_to_less}
-use Rattle.pl_registry.proofs.Shortest.{depth, depth_grows, depths_rise, expanded_in_turn, parent_turn, tried_before, one_deeper, none_nearer}
+use Rattle.pl_registry.proofs.PlanOrder.{sorted_read, IsBefore, IsUpTo, before_more, before_up_to, up_to_same}
+use Rattle.pl_registry.proofs.PlanOrder.{up_to_less}
+use Rattle.pl_registry.proofs.Shortest.{depth, depth_grows, depths_rise, expanded_in_turn, parent_turn}
+use Rattle.pl_registry.proofs.Shortest.{tried_before, one_deeper, none_nearer}
 
 less_or_same : (i k : ℕ) → i ≤ k → (i < k) ⊎ (i ≡ k)
 less_or_same i k l = grind arith

@@ -1,6 +1,7 @@
 -- Whether a state is new under a width is decided, where the atoms that can be true in it stand in a list:
 -- only lists of such atoms can make it new, and of these there are finitely many.
-use Rattle.std.proofs.Common.{◌⊎◌, ◌<◌, ◌≤◌, ℕ, zero, suc, Bool, true, false, IsTrue, List, [], ◌∷◌, length, All, Contains, sym, subst, refl, inl, inr, arith}
+use Rattle.std.proofs.Common.{◌⊎◌, ◌<◌, ◌≤◌, ℕ, zero, suc, Bool, true, false, IsTrue, List, [], ◌∷◌, length}
+use Rattle.std.proofs.Common.{All, Contains, sym, subst, refl, inl, inr, arith}
 use Rattle.std.proofs.lemmas.Bool.{false≢true}
 use Rattle.std.proofs.lemmas.List.Elements.{All-head, All-tail, All-weaker}
 use Rattle.pl_task.specs.declared.data.Atom.{Atom}

@@ -1,5 +1,7 @@
--- A search by number expands its entries in the order of their numbers, and so many of them as its counts say.
-use Rattle.std.proofs.Common.{◌≡◌, ◌⊎◌, ◌<◌, ◌≤◌, ℕ, zero, suc, List, length, slice_index, Contains, refl, sym, ap, ◌∙◌, subst, inl, inr, arith}
+-- A search by number expands its entries in the order of their numbers, and so many of them as its counts
+-- say.
+use Rattle.std.proofs.Common.{◌≡◌, ◌⊎◌, ◌<◌, ◌≤◌, ℕ, zero, suc, List, length, slice_index, Contains, refl}
+use Rattle.std.proofs.Common.{sym, ap, ◌∙◌, subst, inl, inr, arith}
 use Rattle.std.proofs.lemmas.Grind.{same_number_lists}
 use Rattle.std.proofs.lemmas.List.{get_or_default}
 use Rattle.pl_task.specs.States.{State}
@@ -14,11 +16,14 @@ use Rattle.pl_registry.proofs.Turns.{within_or_past}
 use Rattle.pl_registry.proofs.Entries.{made_in-rises, expanded_registered}
 use Rattle.pl_registry.proofs.Growing.{turns_long, turns_read}
 
-module _ {space : StateSpace} {D K : List State → State → Type 0} {r : SearchRecord} (s : IsRecordUpTo space D K by_number r) where
+module _ {space : StateSpace} {D K : List State → State → Type 0} {r : SearchRecord}
+    (s : IsRecordUpTo space D K by_number r) where
   -- what was there before a turn with a number that is no less was there too
   early : (j i : ℕ) → j ≤ i →
-      (i ≡ 0) ⊎ ((k : ℕ) × (i ≡ suc k) × (k < length s.made) × ((pair_at r.pairs (slice_index s.made k)).turn < j)) →
-      (j ≡ 0) ⊎ ((k : ℕ) × (j ≡ suc k) × (k < length s.made) × ((pair_at r.pairs (slice_index s.made k)).turn < j))
+      (i ≡ 0) ⊎ ((k : ℕ) × (i ≡ suc k) × (k < length s.made)
+      × ((pair_at r.pairs (slice_index s.made k)).turn < j)) →
+      (j ≡ 0) ⊎ ((k : ℕ) × (j ≡ suc k) × (k < length s.made)
+      × ((pair_at r.pairs (slice_index s.made k)).turn < j))
   early zero i l h = inl refl
   early (suc k) i l (inl e) = absurd (omega (arith, e, l))
   early (suc k) i l (inr (m, e, w, b)) =
@@ -26,11 +31,13 @@ module _ {space : StateSpace} {D K : List State → State → Type 0} {r : Searc
       inr (k, refl, omega (arith, e, l, w), omega (arith, rises, b))
 
   -- where the turns before were those of the entries with their numbers, so is the next one
-  turn_next : (j : ℕ) → j < length r.expanded → ((h : ℕ) → h < j → slice_index r.expanded h ≡ h) → slice_index r.expanded j ≡ j
+  turn_next : (j : ℕ) → j < length r.expanded → ((h : ℕ) → h < j → slice_index r.expanded h ≡ h)
+      → slice_index r.expanded j ≡ j
   turn_next j l before =
       let here = s.in_order j l in
       let reached : j ≤ slice_index r.expanded j = elim (within_or_past (slice_index r.expanded j) j) [
-        | inl less ↦ absurd (here.open_itself.fresh (slice_index r.expanded j) less (before (slice_index r.expanded j) less))
+        | inl less ↦ absurd
+            (here.open_itself.fresh (slice_index r.expanded j) less (before (slice_index r.expanded j) less))
         | inr past ↦ past
       ] in
       elim (here.first j (record {
@@ -77,45 +84,58 @@ module _ {space : StateSpace} {D K : List State → State → Type 0} {r : Searc
     | inr few ↦ omega (arith, few, expanded_few)
   ]
 
-turns_so_many : (r : SearchRecord) (n : ℕ) → r.expanded ≡ turns (length r.expanded) → length r.expanded ≡ n → r.expanded ≡ turns n
+turns_so_many : (r : SearchRecord) (n : ℕ) → r.expanded ≡ turns (length r.expanded) → length r.expanded ≡ n
+    → r.expanded ≡ turns n
 turns_so_many r n is many = is ∙ ap turns many
 
-none_at_once : (space : StateSpace) (r : SearchRecord) (stats : Stats) → IsAtOnce space r stats → r.expanded ≡ turns stats.expanded
-none_at_once space r stats once = ap (λ (q : SearchRecord). q.expanded) once.is ∙ sym (ap (λ (s : Stats). turns s.expanded) once.stats_are)
+none_at_once : (space : StateSpace) (r : SearchRecord) (stats : Stats) → IsAtOnce space r stats
+    → r.expanded ≡ turns stats.expanded
+none_at_once space r stats once = ap (λ (q : SearchRecord). q.expanded) once.is
+    ∙ sym (ap (λ (s : Stats). turns s.expanded) once.stats_are)
 
 -- an ending counts the entries that were expanded, which are the first ones
-pub ends_in_number : (space : StateSpace) (D K : State → Type 0) (limit : ℕ) (r : SearchRecord) (ending : Ending) (stats : Stats) →
+pub ends_in_number : (space : StateSpace) (D K : State → Type 0) (limit : ℕ) (r : SearchRecord)
+    (ending : Ending) (stats : Stats) →
     IsEnding space D K by_number limit r ending stats → r.expanded ≡ turns stats.expanded
 ends_in_number space D K limit r (Found plan) stats (inl (goal, none, once)) = none_at_once space r stats once
 ends_in_number space D K limit r (Found plan) stats (inr (uncut, found)) =
-    turns_so_many r stats.expanded (in_number uncut.1.stands) (sym (ap (λ (s : Stats). s.expanded) found.stats_are))
-ends_in_number space D K limit r Unsolvable stats (inl (goal, dropped, once)) = none_at_once space r stats once
+    turns_so_many r stats.expanded (in_number uncut.1.stands)
+    (sym (ap (λ (s : Stats). s.expanded) found.stats_are))
+ends_in_number space D K limit r Unsolvable stats (inl (goal, dropped, once)) =
+    none_at_once space r stats once
 ends_in_number space D K limit r Unsolvable stats (inr (uncut, closed)) =
     turns_so_many r stats.expanded (in_number uncut.1.stands)
     (every_turn uncut.1.stands closed.every ∙ sym (ap (λ (s : Stats). s.expanded) closed.stats_are))
 ends_in_number space D K limit r Exhausted stats h = absurd h
 ends_in_number space D K limit r Limit stats (uncut, full) =
-    turns_so_many r stats.expanded (in_number uncut.1.stands) (sym (ap (λ (s : Stats). s.expanded) full.stats_are))
+    turns_so_many r stats.expanded (in_number uncut.1.stands)
+    (sym (ap (λ (s : Stats). s.expanded) full.stats_are))
 
-once_few : (space : StateSpace) (r : SearchRecord) (stats : Stats) → IsAtOnce space r stats → stats.expanded ≤ length r.entries
-once_few space r stats once = (let none = ap (λ (s : Stats). s.expanded) once.stats_are in omega (arith, none))
+once_few : (space : StateSpace) (r : SearchRecord) (stats : Stats) → IsAtOnce space r stats
+    → stats.expanded ≤ length r.entries
+once_few space r stats once =
+    (let none = ap (λ (s : Stats). s.expanded) once.stats_are in omega (arith, none))
 
 -- and they are entries
-pub ends_few : (space : StateSpace) (D K : State → Type 0) (limit : ℕ) (r : SearchRecord) (ending : Ending) (stats : Stats) →
+pub ends_few : (space : StateSpace) (D K : State → Type 0) (limit : ℕ) (r : SearchRecord) (ending : Ending)
+    (stats : Stats) →
     IsEnding space D K by_number limit r ending stats → stats.expanded ≤ length r.entries
 ends_few space D K limit r (Found plan) stats (inl (goal, none, once)) = once_few space r stats once
 ends_few space D K limit r (Found plan) stats (inr (uncut, found)) =
-    (let same = ap (λ (s : Stats). s.expanded) found.stats_are in let few = expanded_few uncut.1.stands in omega (arith, same, few))
+    (let same = ap (λ (s : Stats). s.expanded) found.stats_are in let few = expanded_few uncut.1.stands in
+    omega (arith, same, few))
 ends_few space D K limit r Unsolvable stats (inl (goal, dropped, once)) = once_few space r stats once
 ends_few space D K limit r Unsolvable stats (inr (uncut, closed)) =
     (let same = ap (λ (s : Stats). s.expanded) closed.stats_are in omega (arith, same))
 ends_few space D K limit r Exhausted stats h = absurd h
 ends_few space D K limit r Limit stats (uncut, full) =
-    (let same = ap (λ (s : Stats). s.expanded) full.stats_are in let few = expanded_few uncut.1.stands in omega (arith, same, few))
+    (let same = ap (λ (s : Stats). s.expanded) full.stats_are in let few = expanded_few uncut.1.stands in
+    omega (arith, same, few))
 
 -- the same of width searches
 module _ (space : StateSpace) (task : Task) (k limit : ℕ) (r : SearchRecord) where
-  closed_in_number : {D K : List State → State → Type 0} → IsRecordUpTo space D K by_number r → (stats : Stats) →
+  closed_in_number : {D K : List State → State → Type 0} → IsRecordUpTo space D K by_number r
+      → (stats : Stats) →
       IsClosed space r stats → r.expanded ≡ turns stats.expanded
   closed_in_number stands stats closed =
       turns_so_many r stats.expanded (in_number stands)
@@ -125,11 +145,13 @@ module _ (space : StateSpace) (task : Task) (k limit : ℕ) (r : SearchRecord) w
       r.expanded ≡ turns stats.expanded
   width_in_number (Found plan) stats (inl (goal, none, once)) = none_at_once space r stats once
   width_in_number (Found plan) stats (inr (way, found)) =
-      turns_so_many r stats.expanded (in_number way.stands) (sym (ap (λ (s : Stats). s.expanded) found.stats_are))
+      turns_so_many r stats.expanded (in_number way.stands)
+      (sym (ap (λ (s : Stats). s.expanded) found.stats_are))
   width_in_number Unsolvable stats (way, closed, known) = closed_in_number way.stands stats closed
   width_in_number Exhausted stats (way, closed, left) = closed_in_number way.stands stats closed
   width_in_number Limit stats (way, full) =
-      turns_so_many r stats.expanded (in_number way.stands) (sym (ap (λ (s : Stats). s.expanded) full.stats_are))
+      turns_so_many r stats.expanded (in_number way.stands)
+      (sym (ap (λ (s : Stats). s.expanded) full.stats_are))
 
   pub width_few : (ending : Ending) (stats : Stats) → IsWidthEnding space task k limit r ending stats →
       stats.expanded ≤ length r.entries

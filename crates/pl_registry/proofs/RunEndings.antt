@@ -6,7 +6,8 @@ use Rattle.pl_task.specs.States.{State}
 use Rattle.pl_registry.specs.declared.ended.Stats.{Stats}
 use Rattle.pl_registry.specs.StateSpace.{StateSpace}
 use Rattle.pl_registry.specs.SearchRecord.{Pair, SearchRecord, states_of, IsRecordUpTo}
-use Rattle.pl_registry.specs.Ending.{Ending, record_at_once, stats_of, by_number, IsAtOnce, IsUnderWay, IsEnding, IsWidthUnderWay, IsWidthEnding, AreAllKnown, IsSomeLeftOut}
+use Rattle.pl_registry.specs.Ending.{Ending, record_at_once, stats_of, by_number, IsAtOnce, IsUnderWay}
+use Rattle.pl_registry.specs.Ending.{IsEnding, IsWidthUnderWay, IsWidthEnding, AreAllKnown, IsSomeLeftOut}
 use Rattle.pl_registry.specs.Ending.Ending.{Found, Unsolvable, Exhausted, Limit}
 use Rattle.pl_registry.specs.Cut.{IsCut, IsKept}
 use Rattle.pl_registry.specs.Novelty.{IsNovel, IsStale}

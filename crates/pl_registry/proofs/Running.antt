@@ -1,7 +1,9 @@
 -- A search by any rank, run as a fold over the steps of its entries: it comes to an end. What is dropped and
 -- what is kept must be decided of the states that are reached, and so must be whether two of them are one.
 -- The steps that are left of a turn end the turn, and the limit on entries ends the turns.
-use Rattle.std.proofs.Common.{◌≡◌, ◌≢◌, ◌⊎◌, ◌+◌, ◌<◌, ◌≤◌, ℕ, zero, suc, IsFalse, List, [], ◌∷◌, ◌++◌, length, slice_index, Contains, All, sym, ◌∙◌, subst, inl, inr, arith, length-append}
+use Rattle.std.proofs.Common.{◌≡◌, ◌≢◌, ◌⊎◌, ◌+◌, ◌<◌, ◌≤◌, ℕ, zero, suc, IsFalse, List, [], ◌∷◌, ◌++◌}
+use Rattle.std.proofs.Common.{length, slice_index, Contains, All, sym, ◌∙◌, subst, inl, inr, arith}
+use Rattle.std.proofs.Common.{length-append}
 use Rattle.std.proofs.lemmas.Bool.{cases_Bool}
 use Rattle.std.proofs.lemmas.List.{get_or_default}
 use Rattle.std.proofs.lemmas.List.Elements.{All-head, All-tail}
@@ -18,7 +20,8 @@ use Rattle.pl_registry.proofs.Turns.{within_or_past}
 use Rattle.pl_registry.proofs.Entries.{expanded_registered}
 use Rattle.pl_registry.proofs.Plans.{entries_reached, next_leads}
 use Rattle.pl_registry.proofs.Choosing.{HasNext, all_or_next, so_many, so_many-all, so_many-fit, so_many-push}
-use Rattle.pl_registry.proofs.ByRank.{at_once, next_turn, turn_over, closed_at, next_pair, one_more_dropped, one_more_known, one_more_new, found_at, full_at}
+use Rattle.pl_registry.proofs.ByRank.{at_once, next_turn, turn_over, closed_at, next_pair, one_more_dropped}
+use Rattle.pl_registry.proofs.ByRank.{one_more_known, one_more_new, found_at, full_at}
 
 -- how a search ends that went on from an initial state that is no goal state: at a goal state, with no state
 -- left, or full

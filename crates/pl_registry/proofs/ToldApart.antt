@@ -1,6 +1,8 @@
 -- Two states of a task that are reached are one or they are not: only atoms that some step names can differ,
 -- and these are finitely many. All others are as in the initial state, so finitely many can be true at all.
-use Rattle.std.proofs.Common.{◌≡◌, ◌≢◌, ◌⊎◌, ℕ, Bool, true, false, not, ◌&&◌, ◌||◌, List, [], ◌∷◌, ◌++◌, map, Option, None, Some, slice_get, Contains, refl, sym, ap, ◌∙◌, subst, IsTrue, inl, inr}
+use Rattle.std.proofs.Common.{◌≡◌, ◌≢◌, ◌⊎◌, ℕ, Bool, true, false, not, ◌&&◌, ◌||◌, List, [], ◌∷◌, ◌++◌, map}
+use Rattle.std.proofs.Common.{Option, None, Some, slice_get, Contains, refl, sym, ap, ◌∙◌, subst, IsTrue, inl}
+use Rattle.std.proofs.Common.{inr}
 use Rattle.std.specs.List.{list_any, flat_map}
 use Rattle.std.proofs.lemmas.Bool.{cases_Bool, false≢true}
 use Rattle.std.proofs.lemmas.List.Elements.{Contains-append_left, Contains-append_right}
@@ -9,7 +11,8 @@ use Rattle.pl_task.specs.declared.data.Atom.{Atom}
 use Rattle.pl_task.specs.declared.data.Schema.{Schema}
 use Rattle.pl_task.specs.declared.task.Task.{Task}
 use Rattle.pl_task.specs.Instance.{Instance}
-use Rattle.pl_task.specs.States.{State, is_same, state_of, initial, atom_at, changed_by, result_of, is_applicable}
+use Rattle.pl_task.specs.States.{State, is_same, state_of, initial, atom_at, changed_by, result_of}
+use Rattle.pl_task.specs.States.{is_applicable}
 use Rattle.pl_task.proofs.StateLemmas.{state_of-members, agreeing_states}
 use Rattle.pl_normal.specs.Steps.{all_steps, applicable_steps}
 use Rattle.pl_registry.specs.StateSpace.{LeadsTo, space_of}
@@ -41,37 +44,48 @@ and_true true = refl
 and_true false = refl
 
 -- what no element of a joined list passes, none of its parts has
-any_of_part : (p : Atom → Bool) (f : Instance → List Atom) (xs : List Instance) (x : Instance) → Contains xs x → list_any p (flat_map f xs) ≡ false → list_any p (f x) ≡ false
+any_of_part : (p : Atom → Bool) (f : Instance → List Atom) (xs : List Instance) (x : Instance) → Contains xs x
+    → list_any p (flat_map f xs) ≡ false → list_any p (f x) ≡ false
 any_of_part p f [] x has none = absurd (Contains-nil x has)
 any_of_part p f (y ∷ xs) x has none =
-    let parts = false_parts (list_any p (f y)) (list_any p (flat_map f xs)) (sym (list_any-append p (f y) (flat_map f xs)) ∙ none) in
+    let parts = false_parts (list_any p (f y)) (list_any p (flat_map f xs))
+    (sym (list_any-append p (f y) (flat_map f xs)) ∙ none) in
     elim (Contains-cons_cases y xs x has) [
       | inl e ↦ ap (λ z. list_any p (f z)) (sym e) ∙ parts.0
       | inr rest ↦ any_of_part p f xs x rest parts.1
     ]
 
 -- a step changes no atom but its own
-changed_but : (s : State) (args : List ℕ) (found : Option Schema) (a : Atom) → state_of (effects_by args found) a ≡ false → changed_by s args found a ≡ s a
+changed_but : (s : State) (args : List ℕ) (found : Option Schema) (a : Atom)
+    → state_of (effects_by args found) a ≡ false → changed_by s args found a ≡ s a
 changed_but s args None a none = refl
 changed_but s args (Some schema) a none =
     let deletes = map (atom_at args) schema.delete in
     let adds = map (atom_at args) schema.add in
-    let parts = false_parts (state_of deletes a) (state_of adds a) (sym (list_any-append (is_same a) deletes adds) ∙ none) in
+    let parts = false_parts (state_of deletes a) (state_of adds a)
+    (sym (list_any-append (is_same a) deletes adds) ∙ none) in
     (λ i. parts.1 i || (s a && not (parts.0 i))) ∙ and_true (s a)
 
-applicable_is_listed : (task : Task) (s : State) (step : Instance) → Contains (applicable_steps task s) step → Contains (all_steps task) step
+applicable_is_listed : (task : Task) (s : State) (step : Instance) → Contains (applicable_steps task s) step
+    → Contains (all_steps task) step
 unfolding applicable_steps
-applicable_is_listed task s step has = (Contains-from_filter (is_applicable task s) (all_steps task) step has).0
+applicable_is_listed task s step has =
+    (Contains-from_filter (is_applicable task s) (all_steps task) step has).0
 
-step_but : (task : Task) (first s : State) (step : Instance) → Contains (applicable_steps task s) step → IsBut (touched task) first s →
+step_but : (task : Task) (first s : State) (step : Instance) → Contains (applicable_steps task s) step
+    → IsBut (touched task) first s →
     IsBut (touched task) first (result_of task s step)
 step_but task first s step of but a none =
-    changed_but s step.args (slice_get task.schemas step.schema) a (any_of_part (is_same a) (effects_of task) (all_steps task) step (applicable_is_listed task s step of) none)
+    changed_but s step.args (slice_get task.schemas step.schema) a
+    (any_of_part (is_same a) (effects_of task) (all_steps task) step
+    (applicable_is_listed task s step of) none)
     ∙ but a none
 
-reached_but : (task : Task) (first s t : State) (steps : List Instance) → IsBut (touched task) first s → LeadsTo (space_of task) s steps t → IsBut (touched task) first t
+reached_but : (task : Task) (first s t : State) (steps : List Instance) → IsBut (touched task) first s
+    → LeadsTo (space_of task) s steps t → IsBut (touched task) first t
 reached_but task first s t [] but leads = subst (IsBut (touched task) first) leads but
-reached_but task first s t (step ∷ steps) but leads = reached_but task first (result_of task s step) t steps (step_but task first s step leads.0 but) leads.1
+reached_but task first s t (step ∷ steps) but leads = reached_but task first (result_of task s step) t steps
+    (step_but task first s step leads.0 but) leads.1
 
 bool_same_or_not : (a b : Bool) → (a ≡ b) ⊎ (a ≢ b)
 bool_same_or_not true true = inl refl
@@ -92,7 +106,8 @@ agree_or_not s t (x ∷ atoms) = elim (bool_same_or_not (s x) (t x)) [
   ]
 ]
 
-same_or_not : (first s t : State) (atoms : List Atom) → IsBut atoms first s → IsBut atoms first t → (s ≡ t) ⊎ (s ≢ t)
+same_or_not : (first s t : State) (atoms : List Atom) → IsBut atoms first s → IsBut atoms first t → (s ≡ t)
+    ⊎ (s ≢ t)
 same_or_not first s t atoms one two = elim (agree_or_not s t atoms) [
   | inr other ↦ inr other
   | inl all ↦ inl (agreeing_states s t (λ a. elim (cases_Bool (state_of atoms a)) [
@@ -104,7 +119,9 @@ same_or_not first s t atoms one two = elim (agree_or_not s t atoms) [
 pub told_apart : (task : Task) → AreToldApart (space_of task)
 told_apart task s t (steps, leads) (others, also) =
     let start : IsBut (touched task) (initial task) (initial task) = λ a none. refl in
-    same_or_not (initial task) s t (touched task) (reached_but task (initial task) (initial task) s steps start leads) (reached_but task (initial task) (initial task) t others start also)
+    same_or_not (initial task) s t (touched task)
+    (reached_but task (initial task) (initial task) s steps start leads)
+    (reached_but task (initial task) (initial task) t others start also)
 
 -- an atom that is true in a state that is reached was so at first, or some step names it
 pub true_within : (task : Task) (s : State) → IsReached (space_of task) s → (a : Atom) → IsTrue (s a) →

@@ -1,5 +1,6 @@
 -- How a search ends, and what it has counted then.
-use Rattle.std.specs.Prelude.{◌≡◌, ◌⊎◌, ℕ, suc, ◌-◌, ◌^◌, ◌≤◌, ◌<◌, min, Bool, IsTrue, IsFalse, List, [], ◌∷◌, ◌++◌, length, All, Contains}
+use Rattle.std.specs.Prelude.{◌≡◌, ◌⊎◌, ℕ, suc, ◌-◌, ◌^◌, ◌≤◌, ◌<◌, min, Bool, IsTrue, IsFalse, List, [], ◌∷◌}
+use Rattle.std.specs.Prelude.{◌++◌, length, All, Contains}
 use Rattle.pl_task.specs.Instance.{Instance}
 use Rattle.pl_task.specs.declared.task.Task.{Task}
 use Rattle.pl_task.specs.States.{State}
@@ -11,7 +12,8 @@ use Rattle.pl_registry.specs.declared.search.Search.{Search}
 use Rattle.pl_registry.specs.declared.search.Search.TheVariants as search
 use Rattle.pl_registry.specs.StateSpace.{StateSpace, space_of}
 use Rattle.pl_registry.specs.Cut.{IsCut, IsKept}
-use Rattle.pl_registry.specs.SearchRecord.{Pair, SearchRecord, entry_of_initial, states_of, path_of, all_pairs, IsRecordUpTo}
+use Rattle.pl_registry.specs.SearchRecord.{Pair, SearchRecord, entry_of_initial, states_of, path_of}
+use Rattle.pl_registry.specs.SearchRecord.{all_pairs, IsRecordUpTo}
 use Rattle.pl_registry.specs.Novelty.{IsNovel, IsStale}
 
 -- the endings of all searches
@@ -35,7 +37,8 @@ abbrev pub capped : ℕ → ℕ
 capped n = min n (2 ^ 64 - 1)
 
 abbrev pub stats_of : ℕ → ℕ → ℕ → Stats
-stats_of states expanded generated = record { states = states; expanded = expanded; generated = capped generated }
+stats_of states expanded generated =
+    record { states = states; expanded = expanded; generated = capped generated }
 
 -- the record of a search that ends before it expands a state
 abbrev pub record_at_once : StateSpace → SearchRecord
@@ -53,7 +56,8 @@ pub record IsNextPair (space : StateSpace) (r : SearchRecord) (at : Pair) : Type
   pub last_turn : suc at.turn ≡ length r.expanded
 
 -- the next pair leads to a goal state; the plan is the path of its entry, then its step
-pub record IsFoundAt (space : StateSpace) (r : SearchRecord) (plan : List Instance) (stats : Stats) : Type 0 where
+pub record IsFoundAt (space : StateSpace) (r : SearchRecord) (plan : List Instance)
+    (stats : Stats) : Type 0 where
   pub at : Pair
   pub next : IsNextPair space r at
   pub goal : IsTrue (space.is_goal at.target)
@@ -61,7 +65,8 @@ pub record IsFoundAt (space : StateSpace) (r : SearchRecord) (plan : List Instan
   pub stats_are : stats ≡ stats_of (length r.entries) (length r.expanded) (suc (length r.pairs))
 
 -- the next pair leads to a state that is to be registered, no goal state, and as many states as the limit are
-pub record IsFull (space : StateSpace) (MayKeep : List State → State → Type 0) (limit : ℕ) (r : SearchRecord) (stats : Stats) : Type 0 where
+pub record IsFull (space : StateSpace) (MayKeep : List State → State → Type 0) (limit : ℕ) (r : SearchRecord)
+    (stats : Stats) : Type 0 where
   pub at : Pair
   pub next : IsNextPair space r at
   pub no_goal : IsFalse (space.is_goal at.target)
@@ -76,8 +81,10 @@ pub record IsClosed (space : StateSpace) (r : SearchRecord) (stats : Stats) : Ty
   pub every : (i : ℕ) → i < length r.entries → Contains r.expanded i
   pub stats_are : stats ≡ stats_of (length r.entries) (length r.entries) (length r.pairs)
 
--- the search went on from an initial state that is no goal state, and its record has no more entries than the limit
-pub record IsUnderWay (space : StateSpace) (MayDrop MayKeep : List State → State → Type 0) (rank : State → ℕ) (limit : ℕ) (r : SearchRecord) : Type 0 where
+-- the search went on from an initial state that is no goal state, and its record has no more entries than the
+-- limit
+pub record IsUnderWay (space : StateSpace) (MayDrop MayKeep : List State → State → Type 0) (rank : State → ℕ)
+    (limit : ℕ) (r : SearchRecord) : Type 0 where
   pub no_goal : IsFalse (space.is_goal space.initial)
   pub few : length r.entries ≤ limit
   pub stands : IsRecordUpTo space MayDrop MayKeep rank r
@@ -85,15 +92,18 @@ pub record IsUnderWay (space : StateSpace) (MayDrop MayKeep : List State → Sta
 -- Searches that cut states, whatever was registered before. The initial state may be cut too.
 
 abbrev pub IsCutAtOnce : StateSpace → (State → Type 0) → SearchRecord → Stats → Type 0
-IsCutAtOnce space MayDrop r stats = IsFalse (space.is_goal space.initial) × MayDrop space.initial × IsAtOnce space r stats
+IsCutAtOnce space MayDrop r stats = IsFalse (space.is_goal space.initial) × MayDrop space.initial
+    × IsAtOnce space r stats
 
 -- under way from an initial state that was not cut
-abbrev pub IsUncut : StateSpace → (State → Type 0) → (State → Type 0) → (State → ℕ) → ℕ → SearchRecord → Type 0
+abbrev pub IsUncut : StateSpace → (State → Type 0) → (State → Type 0) → (State → ℕ) → ℕ → SearchRecord
+    → Type 0
 IsUncut space MayDrop MayKeep rank limit r =
     MayKeep space.initial × IsUnderWay space (λ _. MayDrop) (λ _. MayKeep) rank limit r
 
 -- how a search with a limit on its entries ends that expands by rank and then by number
-abbrev pub IsEnding : StateSpace → (State → Type 0) → (State → Type 0) → (State → ℕ) → ℕ → SearchRecord → Ending → Stats → Type 0
+abbrev pub IsEnding : StateSpace → (State → Type 0) → (State → Type 0) → (State → ℕ) → ℕ → SearchRecord
+    → Ending → Stats → Type 0
 IsEnding space MayDrop MayKeep rank limit r (Found plan) stats =
     (IsTrue (space.is_goal space.initial) × (plan ≡ []) × IsAtOnce space r stats) ⊎
     (IsUncut space MayDrop MayKeep rank limit r × IsFoundAt space r plan stats)
@@ -124,14 +134,21 @@ abbrev pub IsWidthEnding : StateSpace → Task → ℕ → ℕ → SearchRecord 
 IsWidthEnding space task k limit r (Found plan) stats =
     (IsTrue (space.is_goal space.initial) × (plan ≡ []) × IsAtOnce space r stats) ⊎
     (IsWidthUnderWay space task k limit r × IsFoundAt space r plan stats)
-IsWidthEnding space task k limit r Unsolvable stats = IsWidthUnderWay space task k limit r × IsClosed space r stats × AreAllKnown r
-IsWidthEnding space task k limit r Exhausted stats = IsWidthUnderWay space task k limit r × IsClosed space r stats × IsSomeLeftOut r
+IsWidthEnding space task k limit r Unsolvable stats = IsWidthUnderWay space task k limit r
+    × IsClosed space r stats × AreAllKnown r
+IsWidthEnding space task k limit r Exhausted stats = IsWidthUnderWay space task k limit r
+    × IsClosed space r stats × IsSomeLeftOut r
 IsWidthEnding space task k limit r Limit stats =
     IsWidthUnderWay space task k limit r × IsFull space (IsNovel task k) limit r stats
 
--- how a search of a task ends, where the states that the test names are cut under breadth-first and greedy search
+-- how a search of a task ends, where the states that the test names are cut under breadth-first and greedy
+-- search
 abbrev pub IsEndingOf : Task → (State → Bool) → Search → ℕ → SearchRecord → Ending → Stats → Type 0
-IsEndingOf task cut search.Bfs limit r ending stats = IsEnding (space_of task) (IsCut cut) (IsKept cut) by_number limit r ending stats
-IsEndingOf task cut search.Gbfs limit r ending stats = IsEnding (space_of task) (IsCut cut) (IsKept cut) (unmet task) limit r ending stats
-IsEndingOf task cut search.Iw1 limit r ending stats = IsWidthEnding (space_of task) task 1 limit r ending stats
-IsEndingOf task cut search.Iw2 limit r ending stats = IsWidthEnding (space_of task) task 2 limit r ending stats
+IsEndingOf task cut search.Bfs limit r ending stats = IsEnding (space_of task) (IsCut cut)
+    (IsKept cut) by_number limit r ending stats
+IsEndingOf task cut search.Gbfs limit r ending stats = IsEnding (space_of task) (IsCut cut) (IsKept cut)
+    (unmet task) limit r ending stats
+IsEndingOf task cut search.Iw1 limit r ending stats = IsWidthEnding
+    (space_of task) task 1 limit r ending stats
+IsEndingOf task cut search.Iw2 limit r ending stats = IsWidthEnding
+    (space_of task) task 2 limit r ending stats

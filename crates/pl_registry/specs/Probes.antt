@@ -1,4 +1,5 @@
--- What searches may probe where all schemas are acyclic: no more than the bounds of the states that they expand.
+-- What searches may probe where all schemas are acyclic: no more than the bounds of the states that they
+-- expand.
 use Rattle.std.specs.Prelude.{◌≡◌, ◌<◌, ◌≤◌, ℕ, List, length}
 use Rattle.std.specs.List.{sum_by}
 use Rattle.pl_task.specs.declared.task.Task.{Task}

@@ -1,5 +1,6 @@
 -- What a registry holds, and what adding a state answers and leaves.
-use Rattle.std.specs.Prelude.{◌≡◌, ◌≢◌, ℕ, zero, suc, ◌-◌, ◌<◌, ◌≤◌, ◌^◌, List, [], ◌∷◌, ◌++◌, map, length, slice_index_or, AllPairs, Contains, Option, Some, None, Result, Ok, Err}
+use Rattle.std.specs.Prelude.{◌≡◌, ◌≢◌, ℕ, zero, suc, ◌-◌, ◌<◌, ◌≤◌, ◌^◌, List, [], ◌∷◌, ◌++◌, map, length}
+use Rattle.std.specs.Prelude.{slice_index_or, AllPairs, Contains, Option, Some, None, Result, Ok, Err}
 use Rattle.pl_task.specs.Instance.{Instance}
 use Rattle.pl_task.specs.declared.task.Task.{Task}
 use Rattle.pl_state.specs.StateOf.{state_in}
@@ -35,9 +36,11 @@ words_of entries = map (λ e. e.words) entries
 abbrev pub paired : List (List ℕ) → List Link → List Registered
 paired [] links = []
 paired (words ∷ states) [] = []
-paired (words ∷ states) (link ∷ links) = record { words = words; parent = link.parent; step = link.step } ∷ paired states links
+paired (words ∷ states) (link ∷ links) = record { words = words; parent = link.parent; step = link.step }
+    ∷ paired states links
 
--- every registry: it has an entry, and no more than its limit, no two entries have one state, and parents have lower numbers
+-- every registry: it has an entry, and no more than its limit, no two entries have one state, and parents
+-- have lower numbers
 pub record IsRegister (r : Register) : Type 0 where
   pub some : 0 < length r.entries
   pub few : length r.entries ≤ r.limit
@@ -48,7 +51,11 @@ pub record IsRegister (r : Register) : Type 0 where
 -- the registry with one more entry
 abbrev pub with_entry : Register → List ℕ → ℕ → Instance → Register
 with_entry r words parent step =
-    record { limit = r.limit; entries = r.entries ++ record { words = words; parent = parent; step = step } ∷ [] }
+    record {
+      limit = r.limit;
+      entries = r.entries
+          ++ record { words = words; parent = parent; step = step } ∷ [];
+    }
 
 -- the state is held with this number
 abbrev pub IsHeldAs : Register → List ℕ → ℕ → Type 0
@@ -57,13 +64,17 @@ IsHeldAs r words n = (n < length r.entries) × ((registered_at r.entries n).word
 abbrev pub IsHeld : Register → List ℕ → Type 0
 IsHeld r words = Contains (words_of r.entries) words
 
--- a held state is known and changes nothing; another is registered with the next number, unless the registry is full or memory is wanting
+-- a held state is known and changes nothing; another is registered with the next number, unless the registry
+-- is full or memory is wanting
 abbrev pub Adds : Register → Register → List ℕ → ℕ → Instance → Result Added Refused → Type 0
 Adds old new words parent step (Ok (added.Known n)) = IsHeldAs old words n × (new ≡ old)
 Adds old new words parent step (Ok (added.New n)) =
-    (IsHeld old words → ⊥) × (length old.entries < old.limit) × (n ≡ length old.entries) × (new ≡ with_entry old words parent step)
-Adds old new words parent step (Err refused.Full) = (IsHeld old words → ⊥) × (length old.entries ≡ old.limit) × (new ≡ old)
-Adds old new words parent step (Err (refused.Memory e)) = (IsHeld old words → ⊥) × (length old.entries < old.limit) × (new ≡ old)
+    (IsHeld old words → ⊥) × (length old.entries < old.limit) × (n ≡ length old.entries)
+    × (new ≡ with_entry old words parent step)
+Adds old new words parent step (Err refused.Full) = (IsHeld old words → ⊥) × (length old.entries ≡ old.limit)
+    × (new ≡ old)
+Adds old new words parent step (Err (refused.Memory e)) = (IsHeld old words → ⊥)
+    × (length old.entries < old.limit) × (new ≡ old)
 
 abbrev pub Finds : Register → List ℕ → Option ℕ → Type 0
 Finds r words (Some n) = IsHeldAs r words n
@@ -81,7 +92,8 @@ abbrev pub registered_path_within : List Registered → ℕ → ℕ → List Ins
 registered_path_within entries zero i = []
 registered_path_within entries (suc n) zero = []
 registered_path_within entries (suc n) (suc i) =
-    registered_path_within entries n (registered_at entries (suc i)).parent ++ (registered_at entries (suc i)).step ∷ []
+    registered_path_within entries n (registered_at entries (suc i)).parent
+    ++ (registered_at entries (suc i)).step ∷ []
 
 abbrev pub registered_path : List Registered → ℕ → List Instance
 registered_path entries i = registered_path_within entries i i

@@ -1,6 +1,8 @@
--- The record of a search: the states that it registered, those that it expanded, and the pairs of a state and a step
--- that it tried, as finished lists. All searches share it; what differs is which targets are dropped, and the rank.
-use Rattle.std.specs.Prelude.{◌≡◌, ◌≢◌, ◌⊎◌, ℕ, zero, suc, ◌<◌, ◌≤◌, nat_lt, false, IsFalse, List, [], ◌∷◌, ◌++◌, map, length, slice_index, slice_index_or, All, AllPairs, Contains}
+-- The record of a search: the states that it registered, those that it expanded, and the pairs of a state and
+-- a step that it tried, as finished lists. All searches share it; what differs is which targets are dropped,
+-- and the rank.
+use Rattle.std.specs.Prelude.{◌≡◌, ◌≢◌, ◌⊎◌, ℕ, zero, suc, ◌<◌, ◌≤◌, nat_lt, false, IsFalse, List, [], ◌∷◌}
+use Rattle.std.specs.Prelude.{◌++◌, map, length, slice_index, slice_index_or, All, AllPairs, Contains}
 use Rattle.std.specs.List.{filter}
 use Rattle.pl_task.specs.Instance.{Instance}
 use Rattle.pl_task.specs.States.{State}
@@ -12,14 +14,16 @@ pub record Entry : Type 0 where
   pub parent : ℕ
   pub step : Instance
 
--- a step of an expanded entry: the turn in which the entry was expanded, its number, the step, and the state that it leads to
+-- a step of an expanded entry: the turn in which the entry was expanded, its number, the step, and the state
+-- that it leads to
 pub record Pair : Type 0 where
   pub turn : ℕ
   pub entry : ℕ
   pub step : Instance
   pub target : State
 
--- the registered entries by their numbers, the numbers of the expanded ones in order, and the pairs that were tried and left behind
+-- the registered entries by their numbers, the numbers of the expanded ones in order, and the pairs that were
+-- tried and left behind
 pub record SearchRecord : Type 0 where
   pub entries : List Entry
   pub expanded : List ℕ
@@ -45,7 +49,8 @@ pair_at pairs m = slice_index_or pairs m (record { turn = 0; entry = 0; step = n
 abbrev pub states_of : List Entry → List State
 states_of entries = map (λ e. e.state) entries
 
--- the steps along the parents, from the initial state to an entry; a parent has a lower number, so at most n of them lead up to entry n
+-- the steps along the parents, from the initial state to an entry; a parent has a lower number, so at most n
+-- of them lead up to entry n
 abbrev pub path_within : List Entry → ℕ → ℕ → List Instance
 path_within entries zero i = []
 path_within entries (suc n) zero = []
@@ -63,27 +68,32 @@ pair_by space entries j i step =
 -- the pairs of turn j, in the order of the steps
 abbrev pub pairs_of : StateSpace → List Entry → List ℕ → ℕ → List Pair
 pairs_of space entries expanded j =
-    map (pair_by space entries j (slice_index expanded j)) (space.steps (entry_at entries (slice_index expanded j)).state)
+    map (pair_by space entries j (slice_index expanded j))
+    (space.steps (entry_at entries (slice_index expanded j)).state)
 
 -- the pairs of the turns below j, turn by turn
 abbrev pub pairs_below : StateSpace → List Entry → List ℕ → ℕ → List Pair
 pairs_below space entries expanded zero = []
-pairs_below space entries expanded (suc j) = pairs_below space entries expanded j ++ pairs_of space entries expanded j
+pairs_below space entries expanded (suc j) = pairs_below space entries expanded j
+    ++ pairs_of space entries expanded j
 
 -- the pairs of all turns
 abbrev pub all_pairs : StateSpace → SearchRecord → List Pair
 all_pairs space r = pairs_below space r.entries r.expanded (length r.expanded)
 
--- the states registered before the pair at place m: the initial one, and the targets of the lower pairs that made an entry
+-- the states registered before the pair at place m: the initial one, and the targets of the lower pairs that
+-- made an entry
 abbrev pub seen_before : StateSpace → List Pair → List ℕ → ℕ → List State
-seen_before space pairs made m = space.initial ∷ map (λ k. (pair_at pairs k).target) (filter (λ k. nat_lt k m) made)
+seen_before space pairs made m = space.initial ∷ map (λ k. (pair_at pairs k).target)
+    (filter (λ k. nat_lt k m) made)
 
 abbrev pub IsRising : List ℕ → Type 0
 IsRising made = (i k : ℕ) → i < k → k < length made → slice_index made i < slice_index made k
 
 -- entry i is there before turn j, and was not expanded in an earlier turn
 pub record IsOpen (r : SearchRecord) (made : List ℕ) (j i : ℕ) : Type 0 where
-  pub early : (i ≡ 0) ⊎ ((k : ℕ) × (i ≡ suc k) × (k < length made) × ((pair_at r.pairs (slice_index made k)).turn < j))
+  pub early : (i ≡ 0)
+      ⊎ ((k : ℕ) × (i ≡ suc k) × (k < length made) × ((pair_at r.pairs (slice_index made k)).turn < j))
   pub fresh : (h : ℕ) → h < j → slice_index r.expanded h ≢ i
 
 -- a is before b in rank, or of equal rank with a number that is no greater
@@ -96,9 +106,10 @@ pub record IsFirstOpen (rank : State → ℕ) (r : SearchRecord) (made : List �
   pub open_itself : IsOpen r made j (slice_index r.expanded j)
   pub first : (i : ℕ) → IsOpen r made j i → Precedes rank r.entries (slice_index r.expanded j) i
 
--- The record stands up to a bound, the end of its list of pairs. Which targets may be dropped and which kept is said of the
--- states registered before and the target.
-pub record IsRecordUpTo (space : StateSpace) (MayDrop MayKeep : List State → State → Type 0) (rank : State → ℕ) (r : SearchRecord) : Type 0 where
+-- The record stands up to a bound, the end of its list of pairs. Which targets may be dropped and which kept
+-- is said of the states registered before and the target.
+pub record IsRecordUpTo (space : StateSpace) (MayDrop MayKeep : List State → State → Type 0)
+    (rank : State → ℕ) (r : SearchRecord) : Type 0 where
   -- the places of the pairs that made the entries 1, 2, ..
   pub made : List ℕ
   -- the pairs are the first ones of the expanded entries

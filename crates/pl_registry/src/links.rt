@@ -1,6 +1,7 @@
 //! The parents and steps of registered states, in flat lists: a step takes its numbers and no more.
 
-ghost use Rattle.std.specs.Prelude.{◌≡◌, ◌+◌, ◌-◌, ◌<◌, ◌≤◌, ◌++◌, ◌∷◌, [], length, take, drop, slice_index, OnOk, OnErr};
+ghost use Rattle.std.specs.Prelude.{◌≡◌, ◌+◌, ◌-◌, ◌<◌, ◌≤◌, ◌++◌, ◌∷◌, [], length, take, drop, slice_index};
+ghost use Rattle.std.specs.Prelude.{OnOk, OnErr};
 ghost use Rattle.pl_registry.specs.Links.{Link, link_at, begin_of};
 
 use pl_task::StepRef;
@@ -43,7 +44,13 @@ impl Links {
     /// Adds a link, or leaves all as it was.
     pub(crate) fn push(&mut self, parent: u32, step: StepRef<'_>) -> Result<(), AllocError>
         requires { length step.args.now ≤ 64 }
-        ensures ok { OnOk result (self.new ≡ self.old ++ record { parent = parent; step = record { schema = step.entry.schema; args = step.entry.args.now } } ∷ []) }
+        ensures ok { OnOk result
+            (self.new ≡ self.old
+            ++ record {
+              parent = parent;
+              step =
+                  record { schema = step.entry.schema; args = step.entry.args.now };
+            } ∷ []) }
         ensures err { OnErr result (self.new ≡ self.old) }
     {
         let before = self.words.len();
@@ -104,7 +111,8 @@ fn part<'a>(ends: &[usize], words: &'a [u32], n: usize) -> &'a [u32]
     requires within { slice_index ends.now n ≤ length words.now }
     ensures some { 0 < length result.now }
     ensures few { length result.now ≤ 65 }
-    ensures part { result.now ≡ take (slice_index ends.now n - begin_of 0 ends.now n) (drop (begin_of 0 ends.now n) words.now) }
+    ensures part { result.now ≡ take (slice_index ends.now n - begin_of 0 ends.now n)
+        (drop (begin_of 0 ends.now n) words.now) }
 {
     let start = if n == 0 { 0 } else { ends[n - 1] };
     &words[start..ends[n]]

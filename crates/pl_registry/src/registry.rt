@@ -1,7 +1,8 @@
 //! The registered states of a search.
 
 ghost use Rattle.std.specs.Prelude.{◌≡◌, ◌<◌, ◌≤◌, ◌-◌, ◌^◌, ◌∷◌, ◌++◌, [], length, reverse, IfOk};
-ghost use Rattle.pl_registry.specs.Registered.{Register, Registered, IsRegister, Adds, Finds, initially, registered_at, registered_path};
+ghost use Rattle.pl_registry.specs.Registered.{Register, Registered, IsRegister, Adds, Finds, initially};
+ghost use Rattle.pl_registry.specs.Registered.{registered_at, registered_path};
 
 use crate::added::{Added, Refused};
 use crate::links::Links;
@@ -11,8 +12,9 @@ use pl_task::{List, Plan, Step, StepRef};
 use std::alloc::{AllocError, Global};
 use std::marker::Model;
 
-/// States by the order in which they were registered, from number 0 on, each with the number of the state that it was reached
-/// from and the step that led to it. It keeps the allocator, and has a limit on how many there may be.
+/// States by the order in which they were registered, from number 0 on, each with the number of the state
+/// that it was reached from and the step that led to it. It keeps the allocator, and has a limit on how many
+/// there may be.
 #[derive(Drop)]
 pub struct Registry {
     limit: u32,
@@ -52,12 +54,13 @@ impl Registry {
         })
     }
 
-    /// Registers a state that was reached by a step from the state with the number `parent`, unless it is held. It is looked up
-    /// once. What is refused or held changes nothing.
+    /// Registers a state that was reached by a step from the state with the number `parent`, unless it is
+    /// held. It is looked up once. What is refused or held changes nothing.
     pub fn add(&mut self, state: Packed, parent: u32, step: StepRef<'_>) -> Result<Added, Refused>
         requires parent { parent < length self.old.entries }
         requires step { length step.args.now ≤ 64 }
-        ensures { Adds self.old self.new state parent record { schema = step.entry.schema; args = step.entry.args.now } result }
+        ensures { Adds self.old self.new state parent
+            record { schema = step.entry.schema; args = step.entry.args.now } result }
     {
         let len = self.states.len();
         match self.states.insert_full(state) {
@@ -127,7 +130,8 @@ impl Registry {
         self.path_before(alloc, n, steps)
     }
 
-    /// The steps that lead to the state with a number, and then those given, of which the last one comes first.
+    /// The steps that lead to the state with a number, and then those given, of which the last one comes
+    /// first.
     fn path_before(&self, alloc: Global, n: u32, given: Vec<Step>) -> Result<Plan, AllocError>
         requires { n < length self.now.entries }
         ensures { IfOk result (λ plan. plan ≡ registered_path self.now.entries n ++ reverse given.items) }

@@ -10,16 +10,20 @@ pub returns-in-NotAStep-clause-front : goal.returns-in-NotAStep-clause-front
 returns-in-NotAStep-clause-front g c = rw c.in-NotAStep.is c.put_pieces-in-NotAStep.ensures.front
 
 pub returns-in-TooLong-clause-all : goal.returns-in-TooLong-clause-all
-returns-in-TooLong-clause-all g c = rw (c.in-TooLong.is, ← c.role_bytes.ensures) c.put_pieces-in-TooLong.ensures.all
+returns-in-TooLong-clause-all g c = rw (c.in-TooLong.is, ← c.role_bytes.ensures)
+    c.put_pieces-in-TooLong.ensures.all
 
 pub returns-in-TooLong-clause-front : goal.returns-in-TooLong-clause-front
-returns-in-TooLong-clause-front g c = rw (c.in-TooLong.is, ← c.role_bytes.ensures) c.put_pieces-in-TooLong.ensures.front
+returns-in-TooLong-clause-front g c = rw (c.in-TooLong.is, ← c.role_bytes.ensures)
+    c.put_pieces-in-TooLong.ensures.front
 
 pub returns-in-Read-clause-all : goal.returns-in-Read-clause-all
-returns-in-Read-clause-all g c = rw (c.in-Read.is, ← c.role_bytes-in-Read.ensures) c.put_pieces-in-Read.ensures.all
+returns-in-Read-clause-all g c = rw (c.in-Read.is, ← c.role_bytes-in-Read.ensures)
+    c.put_pieces-in-Read.ensures.all
 
 pub returns-in-Read-clause-front : goal.returns-in-Read-clause-front
-returns-in-Read-clause-front g c = rw (c.in-Read.is, ← c.role_bytes-in-Read.ensures) c.put_pieces-in-Read.ensures.front
+returns-in-Read-clause-front g c = rw (c.in-Read.is, ← c.role_bytes-in-Read.ensures)
+    c.put_pieces-in-Read.ensures.front
 
 pub returns-in-Write-clause-all : goal.returns-in-Write-clause-all
 returns-in-Write-clause-all g c = rw c.in-Write.is c.put_pieces-in-Write.ensures.all

@@ -8,10 +8,12 @@ use Rattle.pl_print.proofs.step.put_argument.Goals as goal
 pub returns-in_err-put_pieces-clause-front : goal.returns-in_err-put_pieces-clause-front
 returns-in_err-put_pieces-clause-front g c =
     on_err c.from_residual.result
-    (subst (AppendsFront _ _) (argument_is c.args.objects.now c.args.number c.index-objects-number.result c.as_slice.result.now
+    (subst (AppendsFront _ _)
+    (argument_is c.args.objects.now c.args.number c.index-objects-number.result c.as_slice.result.now
     c.requires.within c.index-objects-number.is c.as_slice.ensures) c.in_err-put_pieces.ensures.front)
 
 pub returns-clause-all : goal.returns-clause-all
 returns-clause-all g c =
-    subst (Appends _ _) (argument_is c.args.objects.now c.args.number c.index-objects-number.result c.as_slice.result.now
+    subst (Appends _ _)
+    (argument_is c.args.objects.now c.args.number c.index-objects-number.result c.as_slice.result.now
     c.requires.within c.index-objects-number.is c.as_slice.ensures) c.in_ok-put_pieces.ensures.all

@@ -11,7 +11,8 @@ use Rattle.pl_print.proofs.step.put_step.Goals as goal
 pub returns-in_err-put_pieces-clause-front : goal.returns-in_err-put_pieces-clause-front
 returns-in_err-put_pieces-clause-front g c =
     let step : Instance = record { schema = c.args.step.schema; args = c.args.step.args.now } in
-    let whole = step_is c.args.task.now step c.as_slice.result.now c.index-as_slice-step.result c.as_slice-2.result.now c.args.task.now.objects
+    let whole = step_is c.args.task.now step c.as_slice.result.now c.index-as_slice-step.result
+    c.as_slice-2.result.now c.args.task.now.objects
     c.requires.step c.as_slice.ensures c.index-as_slice-step.is c.as_slice-2.ensures refl in
     on_err c.from_residual.result
     (subst (AppendsFront _ _) whole (front_of_first _ _ _ _ c.in_err-put_pieces.ensures.front))
@@ -19,16 +20,19 @@ returns-in_err-put_pieces-clause-front g c =
 pub returns-in_err-put_arguments-clause-front : goal.returns-in_err-put_arguments-clause-front
 returns-in_err-put_arguments-clause-front g c =
     let step : Instance = record { schema = c.args.step.schema; args = c.args.step.args.now } in
-    let whole = step_is c.args.task.now step c.as_slice.result.now c.index-as_slice-step.result c.as_slice-2.result.now c.as_slice-3.result.now
+    let whole = step_is c.args.task.now step c.as_slice.result.now c.index-as_slice-step.result
+    c.as_slice-2.result.now c.as_slice-3.result.now
     c.requires.step c.as_slice.ensures c.index-as_slice-step.is c.as_slice-2.ensures c.as_slice-3.ensures in
     on_err c.from_residual-in_err-put_arguments.result
     (subst (AppendsFront _ _) whole
-    (front_of_next _ _ _ _ _ c.in_ok-put_pieces.ensures.all (front_of_first _ _ _ (codes ")\n") c.in_err-put_arguments.ensures.front)))
+    (front_of_next _ _ _ _ _ c.in_ok-put_pieces.ensures.all
+    (front_of_first _ _ _ (codes ")\n") c.in_err-put_arguments.ensures.front)))
 
 pub returns-in_err-put_all-clause-front : goal.returns-in_err-put_all-clause-front
 returns-in_err-put_all-clause-front g c =
     let step : Instance = record { schema = c.args.step.schema; args = c.args.step.args.now } in
-    let whole = step_is c.args.task.now step c.as_slice.result.now c.index-as_slice-step.result c.as_slice-2.result.now c.as_slice-3.result.now
+    let whole = step_is c.args.task.now step c.as_slice.result.now c.index-as_slice-step.result
+    c.as_slice-2.result.now c.as_slice-3.result.now
     c.requires.step c.as_slice.ensures c.index-as_slice-step.is c.as_slice-2.ensures c.as_slice-3.ensures in
     on_err c.from_residual-in_err-put_all.result
     (subst (AppendsFront _ _) whole
@@ -38,7 +42,8 @@ returns-in_err-put_all-clause-front g c =
 pub returns-clause-all : goal.returns-clause-all
 returns-clause-all g c =
     let step : Instance = record { schema = c.args.step.schema; args = c.args.step.args.now } in
-    let whole = step_is c.args.task.now step c.as_slice.result.now c.index-as_slice-step.result c.as_slice-2.result.now c.as_slice-3.result.now
+    let whole = step_is c.args.task.now step c.as_slice.result.now c.index-as_slice-step.result
+    c.as_slice-2.result.now c.as_slice-3.result.now
     c.requires.step c.as_slice.ensures c.index-as_slice-step.is c.as_slice-2.ensures c.as_slice-3.ensures in
     subst (Appends _ _) whole
     (Appends-trans _ _ _ _ _ c.in_ok-put_pieces.ensures.all

@@ -8,7 +8,8 @@ use Rattle.pl_print.proofs.step_in_blocks.put_arguments.Goals as goal
 pub put_argument-requires : goal.put_argument-requires
 put_argument-requires g c =
     record {
-      within = All-get_or (λ (o : ℕ). o < length c.args.objects.now) c.args.args.now c.loop-number.number-index 0
+      within = All-get_or (λ (o : ℕ). o < length c.args.objects.now) c.args.args.now
+          c.loop-number.number-index 0
           (omega (arith, c.loop-number-test.true)) c.requires.within;
     }
 
@@ -16,7 +17,8 @@ pub returns-in_err-put_argument-clause-front : goal.returns-in_err-put_argument-
 returns-in_err-put_argument-clause-front g c =
     let here : c.loop-number.number-index < length c.args.args.now = omega (arith, c.loop-number-test.true) in
     on_err c.from_residual.result
-    (front_past _ _ _ (argument_text c.args.objects.now) c.args.args.now _ _ (held_of c.args.blocks.now) _ here
+    (front_past _ _ _ (argument_text c.args.objects.now) c.args.args.now _ _
+    (held_of c.args.blocks.now) _ here
     c.loop-number.invariant.taken c.in_err-put_argument.ensures.front)
 
 pub loop-number-preserved : goal.loop-number-preserved
@@ -25,7 +27,8 @@ loop-number-preserved g c =
     let so_far = c.loop-number.invariant in
     let argument = c.in_ok-put_argument.ensures in
     record {
-      taken = sent_to_next _ _ _ (argument_text c.args.objects.now) c.args.args.now _ _ (held_of c.args.blocks.now) _ _ here
+      taken = sent_to_next _ _ _ (argument_text c.args.objects.now) c.args.args.now _ _
+          (held_of c.args.blocks.now) _ _ here
           so_far.taken argument.all;
       later = omega (arith, so_far.later, argument.cause.later);
     }

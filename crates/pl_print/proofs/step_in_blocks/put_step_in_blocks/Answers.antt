@@ -9,7 +9,8 @@ use Rattle.pl_print.proofs.step_in_blocks.put_step_in_blocks.Goals as goal
 pub returns-in_err-put_pieces-clause-front : goal.returns-in_err-put_pieces-clause-front
 returns-in_err-put_pieces-clause-front g c =
     let step : Instance = record { schema = c.args.step.schema; args = c.args.step.args.now } in
-    let whole = step_is c.args.task.now step c.as_slice.result.now c.index-as_slice-step.result c.as_slice-2.result.now c.args.task.now.objects
+    let whole = step_is c.args.task.now step c.as_slice.result.now c.index-as_slice-step.result
+    c.as_slice-2.result.now c.args.task.now.objects
     c.requires.step c.as_slice.ensures c.index-as_slice-step.is c.as_slice-2.ensures refl in
     on_err c.from_residual.result
     (front_of_same _ _ (held_of c.args.blocks.now) _ _ whole
@@ -18,7 +19,8 @@ returns-in_err-put_pieces-clause-front g c =
 pub returns-in_err-put_arguments-clause-front : goal.returns-in_err-put_arguments-clause-front
 returns-in_err-put_arguments-clause-front g c =
     let step : Instance = record { schema = c.args.step.schema; args = c.args.step.args.now } in
-    let whole = step_is c.args.task.now step c.as_slice.result.now c.index-as_slice-step.result c.as_slice-2.result.now c.as_slice-3.result.now
+    let whole = step_is c.args.task.now step c.as_slice.result.now c.index-as_slice-step.result
+    c.as_slice-2.result.now c.as_slice-3.result.now
     c.requires.step c.as_slice.ensures c.index-as_slice-step.is c.as_slice-2.ensures c.as_slice-3.ensures in
     on_err c.from_residual-in_err-put_arguments.result
     (front_of_same _ _ (held_of c.args.blocks.now) _ _ whole
@@ -28,7 +30,8 @@ returns-in_err-put_arguments-clause-front g c =
 pub returns-in_err-put-clause-front : goal.returns-in_err-put-clause-front
 returns-in_err-put-clause-front g c =
     let step : Instance = record { schema = c.args.step.schema; args = c.args.step.args.now } in
-    let whole = step_is c.args.task.now step c.as_slice.result.now c.index-as_slice-step.result c.as_slice-2.result.now c.as_slice-3.result.now
+    let whole = step_is c.args.task.now step c.as_slice.result.now c.index-as_slice-step.result
+    c.as_slice-2.result.now c.as_slice-3.result.now
     c.requires.step c.as_slice.ensures c.index-as_slice-step.is c.as_slice-2.ensures c.as_slice-3.ensures in
     on_err c.from_residual-in_err-put.result
     (front_of_same _ _ (held_of c.args.blocks.now) _ _ whole
@@ -38,7 +41,8 @@ returns-in_err-put-clause-front g c =
 pub returns-clause-all : goal.returns-clause-all
 returns-clause-all g c =
     let step : Instance = record { schema = c.args.step.schema; args = c.args.step.args.now } in
-    let whole = step_is c.args.task.now step c.as_slice.result.now c.index-as_slice-step.result c.as_slice-2.result.now c.as_slice-3.result.now
+    let whole = step_is c.args.task.now step c.as_slice.result.now c.index-as_slice-step.result
+    c.as_slice-2.result.now c.as_slice-3.result.now
     c.requires.step c.as_slice.ensures c.index-as_slice-step.is c.as_slice-2.ensures c.as_slice-3.ensures in
     sent_same _ _ _ _ _ _ whole
     (sent_both _ _ _ _ _ _ _ _ c.in_ok-put_pieces.ensures.all

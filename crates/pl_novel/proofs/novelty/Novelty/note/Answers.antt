@@ -9,46 +9,74 @@ use Rattle.pl_novel.proofs.novelty.Novelty.note.Goals as goal
 
 pub returns-in-Err-clause-sets : goal.returns-in-Err-clause-sets
 returns-in-Err-clause-sets c =
-    let keys = taken_back c.self.inside.atoms.keys c.number_state.new.atoms.keys c.truncate.new.self.keys c.len-atoms.result c.number_state.ensures.extends c.len-atoms.ensures.len c.truncate.ensures.keys in
-    are_noted c.self.inside.k c.truncate.new.self.keys c.self.inside.doubles.keys (subst (λ ks. IsKept c.self.inside.k ks c.self.inside.doubles.keys) (sym keys) c.self.invariant)
+    let keys = taken_back c.self.inside.atoms.keys c.number_state.new.atoms.keys c.truncate.new.self.keys
+    c.len-atoms.result c.number_state.ensures.extends c.len-atoms.ensures.len c.truncate.ensures.keys in
+    are_noted c.self.inside.k c.truncate.new.self.keys c.self.inside.doubles.keys
+    (subst (λ ks. IsKept c.self.inside.k ks c.self.inside.doubles.keys) (sym keys) c.self.invariant)
 
 pub returns-in-Err-note_pairs-clause-sets : goal.returns-in-Err-note_pairs-clause-sets
 returns-in-Err-note_pairs-clause-sets c =
-    let keys = taken_back c.self.inside.atoms.keys c.number_state.new.atoms.keys c.truncate-in-Err-note_pairs-2.new.self.keys c.len-atoms.result c.number_state.ensures.extends c.len-atoms.ensures.len
+    let keys = taken_back c.self.inside.atoms.keys c.number_state.new.atoms.keys
+    c.truncate-in-Err-note_pairs-2.new.self.keys c.len-atoms.result c.number_state.ensures.extends
+    c.len-atoms.ensures.len
     c.truncate-in-Err-note_pairs-2.ensures.keys in
-    let pairs = taken_back c.self.inside.doubles.keys c.note_pairs.new.pairs.keys c.truncate-in-Err-note_pairs.new.self.keys c.len-doubles.result c.note_pairs.ensures.extends c.len-doubles.ensures.len
+    let pairs = taken_back c.self.inside.doubles.keys c.note_pairs.new.pairs.keys
+    c.truncate-in-Err-note_pairs.new.self.keys c.len-doubles.result c.note_pairs.ensures.extends
+    c.len-doubles.ensures.len
     c.truncate-in-Err-note_pairs.ensures.keys in
-    are_noted c.self.inside.k c.truncate-in-Err-note_pairs-2.new.self.keys c.truncate-in-Err-note_pairs.new.self.keys
-    (subst (λ ps. IsKept c.self.inside.k c.truncate-in-Err-note_pairs-2.new.self.keys ps) (sym pairs) (subst (λ ks. IsKept c.self.inside.k ks c.self.inside.doubles.keys) (sym keys) c.self.invariant))
+    are_noted c.self.inside.k c.truncate-in-Err-note_pairs-2.new.self.keys
+    c.truncate-in-Err-note_pairs.new.self.keys
+    (subst (λ ps. IsKept c.self.inside.k c.truncate-in-Err-note_pairs-2.new.self.keys ps) (sym pairs)
+    (subst (λ ks. IsKept c.self.inside.k ks c.self.inside.doubles.keys) (sym keys) c.self.invariant))
 
 pub invariant_of-self-2 : goal.invariant_of-self-2
 invariant_of-self-2 c =
-    kept_on c.args.task.now (state_in c.args.task.now c.args.state.now) c.self.inside.k c.self.inside.atoms.keys c.self.inside.doubles.keys c.number_state.new.atoms.keys
+    kept_on c.args.task.now (state_in c.args.task.now c.args.state.now) c.self.inside.k
+    c.self.inside.atoms.keys c.self.inside.doubles.keys c.number_state.new.atoms.keys
     c.note_pairs.new.pairs.keys c.self.invariant
-    (state_grows c.args.task.now (state_in c.args.task.now c.args.state.now) c.self.inside.k c.self.inside.atoms.keys c.self.inside.doubles.keys c.number_state.new.atoms.keys c.number_state.new.numbers.items
-    c.note_pairs.new.pairs.keys c.self.invariant c.in-Ok.ensures.ok c.as_slice.result.now c.as_slice.ensures.value c.in-Ok-note_pairs.ensures.ok)
+    (state_grows c.args.task.now (state_in c.args.task.now c.args.state.now) c.self.inside.k
+    c.self.inside.atoms.keys c.self.inside.doubles.keys c.number_state.new.atoms.keys
+    c.number_state.new.numbers.items
+    c.note_pairs.new.pairs.keys c.self.invariant c.in-Ok.ensures.ok c.as_slice.result.now
+    c.as_slice.ensures.value c.in-Ok-note_pairs.ensures.ok)
 
 pub returns-clause-yes : goal.returns-clause-yes
 returns-clause-yes c =
-    subst (λ (n : Noted). IsTrue c.has_grown.result ↔ HasNewSet c.args.task.now n (state_in c.args.task.now c.args.state.now)) c.self.view_is
-    (answers c.args.task.now (state_in c.args.task.now c.args.state.now) c.self.inside.k c.self.inside.atoms.keys c.self.inside.doubles.keys c.number_state.new.atoms.keys
+    subst (λ (n : Noted). IsTrue c.has_grown.result ↔ HasNewSet c.args.task.now n
+    (state_in c.args.task.now c.args.state.now)) c.self.view_is
+    (answers c.args.task.now (state_in c.args.task.now c.args.state.now) c.self.inside.k
+    c.self.inside.atoms.keys c.self.inside.doubles.keys c.number_state.new.atoms.keys
     c.note_pairs.new.pairs.keys c.self.invariant
-    (state_grows c.args.task.now (state_in c.args.task.now c.args.state.now) c.self.inside.k c.self.inside.atoms.keys c.self.inside.doubles.keys c.number_state.new.atoms.keys c.number_state.new.numbers.items
-    c.note_pairs.new.pairs.keys c.self.invariant c.in-Ok.ensures.ok c.as_slice.result.now c.as_slice.ensures.value c.in-Ok-note_pairs.ensures.ok) c.has_grown.result
-    (c.has_grown.ensures ∙ (λ i. has_grown (c.len-atoms.ensures.len i) (c.len.ensures.len i) (c.len-doubles.ensures.len i) (c.len-2.ensures.len i))))
+    (state_grows c.args.task.now (state_in c.args.task.now c.args.state.now) c.self.inside.k
+    c.self.inside.atoms.keys c.self.inside.doubles.keys c.number_state.new.atoms.keys
+    c.number_state.new.numbers.items
+    c.note_pairs.new.pairs.keys c.self.invariant c.in-Ok.ensures.ok c.as_slice.result.now
+    c.as_slice.ensures.value c.in-Ok-note_pairs.ensures.ok) c.has_grown.result
+    (c.has_grown.ensures
+    ∙ (λ i. has_grown (c.len-atoms.ensures.len i) (c.len.ensures.len i) (c.len-doubles.ensures.len i)
+    (c.len-2.ensures.len i))))
 
 pub returns-clause-noted : goal.returns-clause-noted
 returns-clause-noted c =
-    subst (λ (n : Noted). NotesState c.args.task.now (state_in c.args.task.now c.args.state.now) n (noted_by c.self.inside.k c.number_state.new.atoms.keys c.note_pairs.new.pairs.keys)) c.self.view_is
-    (notes c.args.task.now (state_in c.args.task.now c.args.state.now) c.self.inside.k c.self.inside.atoms.keys c.self.inside.doubles.keys c.number_state.new.atoms.keys
+    subst (λ (n : Noted). NotesState c.args.task.now (state_in c.args.task.now c.args.state.now) n
+    (noted_by c.self.inside.k c.number_state.new.atoms.keys c.note_pairs.new.pairs.keys)) c.self.view_is
+    (notes c.args.task.now (state_in c.args.task.now c.args.state.now) c.self.inside.k
+    c.self.inside.atoms.keys c.self.inside.doubles.keys c.number_state.new.atoms.keys
     c.note_pairs.new.pairs.keys c.self.invariant
-    (state_grows c.args.task.now (state_in c.args.task.now c.args.state.now) c.self.inside.k c.self.inside.atoms.keys c.self.inside.doubles.keys c.number_state.new.atoms.keys c.number_state.new.numbers.items
-    c.note_pairs.new.pairs.keys c.self.invariant c.in-Ok.ensures.ok c.as_slice.result.now c.as_slice.ensures.value c.in-Ok-note_pairs.ensures.ok))
+    (state_grows c.args.task.now (state_in c.args.task.now c.args.state.now) c.self.inside.k
+    c.self.inside.atoms.keys c.self.inside.doubles.keys c.number_state.new.atoms.keys
+    c.number_state.new.numbers.items
+    c.note_pairs.new.pairs.keys c.self.invariant c.in-Ok.ensures.ok c.as_slice.result.now
+    c.as_slice.ensures.value c.in-Ok-note_pairs.ensures.ok))
 
 pub returns-clause-sets : goal.returns-clause-sets
 returns-clause-sets c =
     are_noted c.self.inside.k c.number_state.new.atoms.keys c.note_pairs.new.pairs.keys
-    (kept_on c.args.task.now (state_in c.args.task.now c.args.state.now) c.self.inside.k c.self.inside.atoms.keys c.self.inside.doubles.keys c.number_state.new.atoms.keys
+    (kept_on c.args.task.now (state_in c.args.task.now c.args.state.now) c.self.inside.k
+    c.self.inside.atoms.keys c.self.inside.doubles.keys c.number_state.new.atoms.keys
     c.note_pairs.new.pairs.keys c.self.invariant
-    (state_grows c.args.task.now (state_in c.args.task.now c.args.state.now) c.self.inside.k c.self.inside.atoms.keys c.self.inside.doubles.keys c.number_state.new.atoms.keys c.number_state.new.numbers.items
-    c.note_pairs.new.pairs.keys c.self.invariant c.in-Ok.ensures.ok c.as_slice.result.now c.as_slice.ensures.value c.in-Ok-note_pairs.ensures.ok))
+    (state_grows c.args.task.now (state_in c.args.task.now c.args.state.now) c.self.inside.k
+    c.self.inside.atoms.keys c.self.inside.doubles.keys c.number_state.new.atoms.keys
+    c.number_state.new.numbers.items
+    c.note_pairs.new.pairs.keys c.self.invariant c.in-Ok.ensures.ok c.as_slice.result.now
+    c.as_slice.ensures.value c.in-Ok-note_pairs.ensures.ok))
