@@ -1,11 +1,13 @@
 -- What the reading of a request's files, one after the other, comes to.
-use Rattle.std.proofs.Common.{◌≡◌, ℕ, ◌≤◌, List, [], ◌∷◌, ◌++◌, take, Option, Some, None, ◌⊎◌, inl, inr, refl, sym, ◌∙◌, subst, arith, IfSome}
+use Rattle.std.proofs.Common.{◌≡◌, ℕ, ◌≤◌, List, [], ◌∷◌, ◌++◌, take, Option, Some, None, ◌⊎◌, inl, inr, refl}
+use Rattle.std.proofs.Common.{sym, ◌∙◌, subst, arith, IfSome}
 use Rattle.pl_io.specs.Outside.{NamedBytes, ShelfSeen, BegunThen, IsAtHand}
 use Rattle.pl_io.proofs.Telling.{BegunThen-trans}
 use Rattle.pl_top.specs.declared.refusal.Refusal.{Refusal}
 use Rattle.pl_top.specs.declared.refusal.Refusal.TheVariants as refused
 use Rattle.pl_check.specs.declared.role.FileRole.{FileRole}
-use Rattle.pl_top.specs.Answer.{Outcome, Reading, Absent, Overlong, Whole, IsReadingOf, GoesOn, IsRead, IsAnswer, cannot_read, too_long}
+use Rattle.pl_top.specs.Answer.{Outcome, Reading, Absent, Overlong, Whole, IsReadingOf, GoesOn, IsRead}
+use Rattle.pl_top.specs.Answer.{IsAnswer, cannot_read, too_long}
 use Rattle.pl_top.specs.Refusal.{outcome_of, HasBegun, IsForced, IsOfLast, IsRefused, IsUnread}
 use Rattle.pl_top.specs.Request.{Request, names_of, roles_of, name_of}
 use Rattle.pl_top.specs.Run.{EndsWith}
@@ -18,7 +20,8 @@ pub begun_more : (request : Request) (count next : ℕ) (more : List (List ℕ))
 begun_more request count next more shelf mid shelf' names h files faults begun = record {
   files = files ∙ h.files;
   faults = omega (arith, h.faults, faults);
-  names = subst (λ ns. BegunThen shelf.begun ns shelf'.begun) (sym names) (BegunThen-trans _ _ _ _ _ h.names begun);
+  names = subst (λ ns. BegunThen shelf.begun ns shelf'.begun) (sym names)
+      (BegunThen-trans _ _ _ _ _ h.names begun);
 }
 
 -- the next file of the request was begun
@@ -48,7 +51,8 @@ at_hand (Some files) name current (inl none) = subst (λ o. IfSome o (λ c. c �
 at_hand (Some files) name current (inr is) = subst (λ o. IfSome o (λ c. c ≡ name)) (sym is.0) refl
 
 -- what is so for further bytes is so for a reading
-pub IsRead-weaker : (files : Option (List NamedBytes)) (place : ℕ) (name : List ℕ) (role : FileRole) (outcome : Outcome)
+pub IsRead-weaker : (files : Option (List NamedBytes)) (place : ℕ) (name : List ℕ) (role : FileRole)
+    (outcome : Outcome)
     (Less More : List ℕ → Type 0) → ((bytes : List ℕ) → Less bytes → More bytes)
     → IsRead files place name role outcome Less → IsRead files place name role outcome More
 IsRead-weaker files place name role outcome Less More weaker h =
@@ -63,15 +67,18 @@ IsRead-weaker files place name role outcome Less More weaker h =
 abbrev pub Stops : Option (List NamedBytes) → ℕ → List ℕ → FileRole → Outcome → Type 0
 Stops files place name role outcome = IsRead files place name role outcome (λ _. ⊥)
 
--- the refusal of a file that isn't read whole: the answer, where an answer is what a reading that stops here leads to
-unread_cause : (request : Request) (name : List ℕ) (role : FileRole) (shelf mid shelf' : ShelfSeen) (r : Refusal)
+-- the refusal of a file that isn't read whole: the answer, where an answer is what a reading that stops here
+-- leads to
+unread_cause : (request : Request) (name : List ℕ) (role : FileRole) (shelf mid shelf' : ShelfSeen)
+    (r : Refusal)
     → name_of request role ≡ Some name → mid.files ≡ shelf.files → shelf.faults ≤ mid.faults
     → shelf'.files ≡ mid.files
     → ((outcome : Outcome) → Stops shelf.files shelf'.place name role outcome
     → IsAnswer request shelf.files shelf'.place outcome)
     → IsUnread name role mid shelf' r
     → IsAnswer request shelf.files shelf'.place (outcome_of r) ⊎ IsForced request shelf shelf' r
-unread_cause request name role shelf mid shelf' (refused.CannotRead other) named before later after leads (same, why) =
+unread_cause request name role shelf mid shelf' (refused.CannotRead other) named before later after leads
+    (same, why) =
     elim why [
       | inl absent ↦ inl (leads _ (record {
         reading = Absent;
@@ -88,15 +95,18 @@ unread_cause request name role shelf mid shelf' (refused.CannotRead other) named
         },
       )
     ]
-unread_cause request name role shelf mid shelf' (refused.TooLong other) named before later after leads (same, long) =
+unread_cause request name role shelf mid shelf' (refused.TooLong other) named before later after leads
+    (same, long) =
     inl (leads _ (record {
       reading = Overlong;
       of_file = subst (λ f. IsReadingOf f shelf'.place name Overlong) before long;
       goes_on = subst (λ (o : FileRole). too_long o ≡ too_long role) (sym same) refl;
     }))
-unread_cause request name role shelf mid shelf' (refused.Input file line column kind) named before later after leads h = absurd h
+unread_cause request name role shelf mid shelf' (refused.Input file line column kind) named before later after
+    leads h = absurd h
 unread_cause request name role shelf mid shelf' refused.NotAStep named before later after leads h = absurd h
-unread_cause request name role shelf mid shelf' (refused.Memory error) named before later after leads h = inr tt
+unread_cause request name role shelf mid shelf' (refused.Memory error) named before later after leads h =
+    inr tt
 
 -- a file that can't be read is the one that was begun last
 of_last : (name : List ℕ) (role : FileRole) (shelf shelf' : ShelfSeen) (r : Refusal) (roles : List FileRole)
@@ -108,7 +118,8 @@ of_last name role shelf shelf' refused.NotAStep roles ends h = tt
 of_last name role shelf shelf' (refused.Memory error) roles ends h = tt
 
 -- a request whose file isn't read whole is refused, after `count` files were begun
-pub unread : (request : Request) (count : ℕ) (name : List ℕ) (role : FileRole) (shelf mid shelf' : ShelfSeen) (r : Refusal)
+pub unread : (request : Request) (count : ℕ) (name : List ℕ) (role : FileRole) (shelf mid shelf' : ShelfSeen)
+    (r : Refusal)
     → name_of request role ≡ Some name → EndsWith (take count (roles_of request)) role
     → HasBegun request count shelf shelf' → mid.files ≡ shelf.files → shelf.faults ≤ mid.faults
     → ((outcome : Outcome) → Stops shelf.files shelf'.place name role outcome
@@ -117,6 +128,7 @@ pub unread : (request : Request) (count : ℕ) (name : List ℕ) (role : FileRol
 unread request count name role shelf mid shelf' r named ends begun before later leads h = record {
   count = count;
   begun = begun;
-  cause = unread_cause request name role shelf mid shelf' r named before later (begun.files ∙ sym before) leads h;
+  cause = unread_cause request name role shelf mid shelf' r named before later
+      (begun.files ∙ sym before) leads h;
   last = of_last name role mid shelf' r _ ends h;
 }

@@ -33,7 +33,8 @@ module _ (out out' err err' : SinkSeen) (result : ℕ) where
   -- memory ran out
   pub finishes_without_memory : (P : Outcome → Type 0) → result ≡ 8 → out' ≡ out
       → IsLinePut (fault_text fault.Memory) err err' → Finishes P out out' err err' result
-  finishes_without_memory P status same line = inr (record { status_is = status; untouched = same; line = line })
+  finishes_without_memory P status same line =
+      inr (record { status_is = status; untouched = same; line = line })
 
   -- a line of the plan is refused
   pub finishes_refused : (start : Start) (slice : List PlanLine) (verdict : Verdict) → slice ≡ start.lines
@@ -59,10 +60,12 @@ module _ (out out' err err' : SinkSeen) (result : ℕ) where
   -- all lines are executed, and the steps are listed
   pub finishes_listed : (start : Start) (slice : List PlanLine) (state : State) → slice ≡ start.lines
       → AreExecuted start.task slice state
-      → Finishes (λ outcome. outcome ≡ list_outcome start.task state start.past start.count) out out' err err' result
+      → Finishes (λ outcome. outcome ≡ list_outcome start.task state start.past start.count) out out' err err'
+      result
       → Finishes (IsWorkedAt start) out out' err err' result
   finishes_listed start slice state same h =
-      finishes_weaker (λ outcome. outcome ≡ list_outcome start.task state start.past start.count) (IsWorkedAt start)
+      finishes_weaker (λ outcome. outcome ≡ list_outcome start.task state start.past start.count)
+      (IsWorkedAt start)
       (λ outcome is. inr (record {
         steps = h.steps;
         state = state;
@@ -72,12 +75,14 @@ module _ (out out' err err' : SinkSeen) (result : ℕ) where
       }))
 
 -- how a run ends that finishes, after its files were read
-pub finished_run : (request : Request) (shelf shelf' : ShelfSeen) (out out' err err' : SinkSeen) (result count : ℕ)
+pub finished_run : (request : Request) (shelf shelf' : ShelfSeen) (out out' err err' : SinkSeen)
+    (result count : ℕ)
     (IsOutcome : Outcome → Type 0) → HasBegun request count shelf shelf'
     → ((outcome : Outcome) → IsOutcome outcome → IsAnswer request shelf.files shelf'.place outcome)
     → Finishes IsOutcome out out' err err' result → RunEnds request shelf shelf' out out' err err' result
 finished_run request shelf shelf' out out' err err' result count IsOutcome begun answers (inl h) =
-    written request shelf shelf' out out' err err' result count h.outcome begun (answers h.outcome h.is) h.no_line h.other h.writes
+    written request shelf shelf' out out' err err' result count h.outcome begun
+    (answers h.outcome h.is) h.no_line h.other h.writes
 finished_run request shelf shelf' out out' err err' result count IsOutcome begun answers (inr h) =
     subst (RunEnds request shelf shelf' out out' err err') (sym h.status_is)
     (refused_run request shelf shelf' out out' err err' (refused.Memory (record {}))

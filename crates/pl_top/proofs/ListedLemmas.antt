@@ -1,5 +1,6 @@
 -- The outcome of `successors` for the bytes of its files and the text of a step: it is one, and there is one.
-use Rattle.std.proofs.Common.{◌≡◌, ℕ, ◌≤◌, nat_le, Bool, true, false, List, [], ◌∷◌, length, Option, None, Some, ◌⊎◌, inl, inr, refl, sym, ◌∙◌, ap, subst}
+use Rattle.std.proofs.Common.{◌≡◌, ℕ, ◌≤◌, nat_le, Bool, true, false, List, [], ◌∷◌, length, Option, None}
+use Rattle.std.proofs.Common.{Some, ◌⊎◌, inl, inr, refl, sym, ◌∙◌, ap, subst}
 use Rattle.std.specs.Prelude.{⊤}
 use Rattle.std.proofs.lemmas.Bool.{leb-true, le-leb}
 use Rattle.pl_io.specs.Outside.{most_file_bytes}
@@ -7,10 +8,13 @@ use Rattle.pl_task.specs.declared.plan.PlanLine.{PlanLine}
 use Rattle.pl_task.specs.declared.plan.PlanLine.TheVariants as line
 use Rattle.pl_task.specs.declared.task.Task.{Task}
 use Rattle.pl_task.specs.Instance.{Instance}
-use Rattle.pl_check.specs.Laws.{FirstFaultIsOne, TaskIsOne, HaveFirstFault, HaveTask, FaultOrTask, FaultExcludesTask, LinesAreOne, PlanFaultIsOne, HasPlanFault, HasLines, FaultOrLines, FaultExcludesLines}
+use Rattle.pl_check.specs.Laws.{FirstFaultIsOne, TaskIsOne, HaveFirstFault, HaveTask, FaultOrTask}
+use Rattle.pl_check.specs.Laws.{FaultExcludesTask, LinesAreOne, PlanFaultIsOne, HasPlanFault, HasLines}
+use Rattle.pl_check.specs.Laws.{FaultOrLines, FaultExcludesLines}
 use Rattle.pl_check.specs.PlanLines.{AreLines, IsStepText}
 use Rattle.pl_print.specs.declared.fault.Fault.TheVariants as fault
-use Rattle.pl_top.specs.Answer.{Outcome, IsFaultOfAny, AreLinesOfAny, IsNoStep, IsStepOfText, IsPastStep, IsListOfLines, IsWorked, IsListed, bytes_of, faulty, refusal}
+use Rattle.pl_top.specs.Answer.{Outcome, IsFaultOfAny, AreLinesOfAny, IsNoStep, IsStepOfText, IsPastStep}
+use Rattle.pl_top.specs.Answer.{IsListOfLines, IsWorked, IsListed, bytes_of, faulty, refusal}
 use Rattle.pl_top.proofs.WorkedLemmas.{worked_one, worked_there}
 
 -- ---- one at most

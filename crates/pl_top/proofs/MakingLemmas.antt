@@ -1,5 +1,7 @@
 -- From the search of a made task to its summary.
-use Rattle.std.proofs.Common.{◌≡◌, ◌≢◌, ◌+◌, ◌^◌, ◌<◌, ◌≤◌, ℕ, zero, suc, List, [], ◌∷◌, ◌++◌, map, length, length-append, get_or, false, inl, inr, refl, sym, ◌∙◌, ap, subst, arith, All, codes, decimal}
+use Rattle.std.proofs.Common.{◌≡◌, ◌≢◌, ◌+◌, ◌^◌, ◌<◌, ◌≤◌, ℕ, zero, suc, List, [], ◌∷◌, ◌++◌, map, length}
+use Rattle.std.proofs.Common.{length-append, get_or, false, inl, inr, refl, sym, ◌∙◌, ap, subst, arith, All}
+use Rattle.std.proofs.Common.{codes, decimal}
 use Rattle.std.proofs.lemmas.List.Elements.{All-map, All-weaker}
 use Rattle.std.proofs.lemmas.Option.{slice_get_within, get_or_from_slice_get}
 use Rattle.pl_io.specs.Outside.{SinkSeen}
@@ -39,45 +41,67 @@ path_short entries zero i = omega arith
 path_short entries (suc n) zero = omega arith
 path_short entries (suc n) (suc i) =
     let before = path_short entries n (entry_at entries (suc i)).parent in
-    rw (length-append (path_within entries n (entry_at entries (suc i)).parent) ((entry_at entries (suc i)).step ∷ []))
+    rw (length-append (path_within entries n (entry_at entries (suc i)).parent)
+    ((entry_at entries (suc i)).step ∷ []))
     (omega (arith, before))
 
 -- a plan that breadth-first search found has at most as many steps as states are registered
-pub few_found : (task : Task) (limit : ℕ) (plan : List Instance) (stats : Stats) → IsSearchedBy task search.Bfs limit (Found plan) stats →
+pub few_found : (task : Task) (limit : ℕ) (plan : List Instance) (stats : Stats)
+    → IsSearchedBy task search.Bfs limit (Found plan) stats →
     length plan ≤ limit
 few_found task limit plan stats h = by_case h.ends
   where
-    by_case : IsEnding (space_of task) (IsCut (is_hopeless task)) (IsKept (is_hopeless task)) by_number limit h.of (Found plan) stats → length plan ≤ limit
+    by_case : IsEnding (space_of task) (IsCut (is_hopeless task)) (IsKept (is_hopeless task)) by_number limit
+        h.of (Found plan) stats → length plan ≤ limit
     by_case (inl (goal, empty, once)) = (let none = ap length empty in omega (arith, none))
     by_case (inr (uncut, found)) =
         let (turn, of) = next_tried found.next in
         let there : found.at.entry < length h.of.entries =
-        subst (λ i. i < length h.of.entries) (sym of.entry_is) (expanded_registered uncut.1.stands found.at.turn turn) in
+        subst (λ i. i < length h.of.entries) (sym of.entry_is)
+        (expanded_registered uncut.1.stands found.at.turn turn) in
         let long : length plan ≡ length (path_of h.of.entries found.at.entry) + 1 =
         ap length found.plan_is ∙ length-append (path_of h.of.entries found.at.entry) (found.at.step ∷ []) in
         omega (arith, long, there, uncut.1.few, path_short h.of.entries found.at.entry found.at.entry)
 
 -- the summary of a plan that was found is the outcome
-pub found_made : (task : Task) (plan : List Instance) (stats : Stats) (out out' err err' : SinkSeen) (result : ℕ) →
-    IsSearchedBy task search.Bfs 1000000 (Found plan) stats → Finishes (IsSummed task plan stats) out out' err err' result →
+pub found_made : (task : Task) (plan : List Instance) (stats : Stats) (out out' err err' : SinkSeen)
+    (result : ℕ) →
+    IsSearchedBy task search.Bfs 1000000 (Found plan) stats
+    → Finishes (IsSummed task plan stats) out out' err err' result →
     Finishes (IsMadeOutcome task) out out' err err' result
 found_made task plan stats out out' err err' result h =
     finishes_weaker out out' err err' result (IsSummed task plan stats) (IsMadeOutcome task)
-    (λ outcome summed. record { ending = Found plan; stats = stats; searched = record { of = h.of; ends = h.ends }; comes = summed })
+    (λ outcome summed.
+    record {
+      ending = Found plan;
+      stats = stats;
+      searched = record { of = h.of; ends = h.ends };
+      comes =
+          summed;
+    })
 
 -- what the search has answered is its ending
-pub ended_so : (task : Task) (answered : Answered) (ending : Ending) (stats : Stats) → ending_of answered ≡ ending →
-    IsSearchedBy task search.Bfs 1000000 (ending_of answered) stats → IsSearchedBy task search.Bfs 1000000 ending stats
+pub ended_so : (task : Task) (answered : Answered) (ending : Ending) (stats : Stats)
+    → ending_of answered ≡ ending →
+    IsSearchedBy task search.Bfs 1000000 (ending_of answered) stats
+    → IsSearchedBy task search.Bfs 1000000 ending stats
 ended_so task answered ending stats is = subst (λ e. IsSearchedBy task search.Bfs 1000000 e stats) is
 
 -- a search without a plan ends as that of `plan`
 pub unsolvable_made : (task : Task) (stats : Stats) (out out' err err' : SinkSeen) (result : ℕ) →
     IsSearchedBy task search.Bfs 1000000 Unsolvable stats →
-    Writes (ended_text task 1000000 false Unsolvable stats) (ending_status Unsolvable) out out' err err' result →
+    Writes (ended_text task 1000000 false Unsolvable stats) (ending_status Unsolvable) out out' err err'
+    result →
     Finishes (IsMadeOutcome task) out out' err err' result
 unsolvable_made task stats out out' err err' result h writes = inl (record {
   outcome = search_outcome task no_plan_options Unsolvable stats;
-  is = record { ending = Unsolvable; stats = stats; searched = record { of = h.of; ends = h.ends }; comes = refl };
+  is = record {
+    ending = Unsolvable;
+    stats = stats;
+    searched = record { of = h.of; ends = h.ends };
+    comes =
+        refl;
+  };
   no_line = refl;
   other = λ four. cc four;
   writes = writes;
@@ -96,8 +120,10 @@ limited_made task stats out out' err err' result h writes = inl (record {
 })
 
 -- a summary that was written is the outcome
-pub summed : (task : Task) (plan : List Instance) (stats : Stats) (verdict : Verdict) (out out' err err' : SinkSeen) (result : ℕ) →
-    IsVerdict task (map line.Step plan) verdict → Writes (summary_text task plan stats verdict) 0 out out' err err' result →
+pub summed : (task : Task) (plan : List Instance) (stats : Stats) (verdict : Verdict)
+    (out out' err err' : SinkSeen) (result : ℕ) →
+    IsVerdict task (map line.Step plan) verdict → Writes (summary_text task plan stats verdict) 0 out out' err
+    err' result →
     Finishes (IsSummed task plan stats) out out' err err' result
 summed task plan stats verdict out out' err err' result is writes = inl (record {
   outcome = summary_outcome task plan stats verdict;
@@ -108,10 +134,12 @@ summed task plan stats verdict out out' err err' result is writes = inl (record 
 })
 
 -- the pieces of the counts
-pub counts_are : (a b c d e f : List ℕ) (objects atoms steps : ℕ) (stats : Stats) → a ≡ decimal objects → b ≡ decimal atoms →
+pub counts_are : (a b c d e f : List ℕ) (objects atoms steps : ℕ) (stats : Stats) → a ≡ decimal objects
+    → b ≡ decimal atoms →
     c ≡ decimal steps → d ≡ decimal stats.states → e ≡ decimal stats.expanded → f ≡ decimal stats.generated →
     in_turn (codes "objects " ∷ a ∷ codes "\natoms " ∷ b ∷ codes "\nlength " ∷ c ∷ codes "\nstates " ∷ d ∷
-    codes "\nexpanded " ∷ e ∷ codes "\ngenerated " ∷ f ∷ codes "\n" ∷ []) ≡ counts_text objects atoms steps stats
+    codes "\nexpanded " ∷ e ∷ codes "\ngenerated " ∷ f ∷ codes "\n" ∷ []) ≡ counts_text objects atoms steps
+    stats
 unfolding counts_text
 counts_are a b c d e f objects atoms steps stats first second third fourth fifth sixth =
     rw (first, second, third, fourth, fifth, sixth) refl
@@ -121,33 +149,42 @@ counts_some : (objects atoms steps : ℕ) (stats : Stats) → counts_text object
 unfolding counts_text
 counts_some objects atoms steps stats none = cc none
 
-pub summary_some : (task : Task) (plan : List Instance) (stats : Stats) (verdict : Verdict) → summary_text task plan stats verdict ≢ []
+pub summary_some : (task : Task) (plan : List Instance) (stats : Stats) (verdict : Verdict)
+    → summary_text task plan stats verdict ≢ []
 summary_some task plan stats verdict =
     before (counts_text (length task.objects) (length task.init) (length plan) stats) (verdict_text verdict)
     (counts_some (length task.objects) (length task.init) (length plan) stats)
 
 -- the summary by the lists that were counted
-pub summary_is : (task : Task) (plan : List Instance) (stats : Stats) (verdict : Verdict) (objects : List ObjectDef) (atoms : List Atom)
+pub summary_is : (task : Task) (plan : List Instance) (stats : Stats) (verdict : Verdict)
+    (objects : List ObjectDef) (atoms : List Atom)
     (steps : List Instance) → objects ≡ task.objects → atoms ≡ task.init → steps ≡ plan →
-    counts_text (length objects) (length atoms) (length steps) stats ++ verdict_text verdict ≡ summary_text task plan stats verdict
+    counts_text (length objects) (length atoms) (length steps) stats
+    ++ verdict_text verdict ≡ summary_text task plan stats verdict
 summary_is task plan stats verdict objects atoms steps first second third =
     λ i. counts_text (length (first i)) (length (second i)) (length (third i)) stats ++ verdict_text verdict
 
 -- what the steps of a plan are judged as
-pub lines_within : (task : Task) (steps : List Instance) (lines slice : List PlanLine) → All (IsStep task) steps →
+pub lines_within : (task : Task) (steps : List Instance) (lines slice : List PlanLine)
+    → All (IsStep task) steps →
     lines ≡ map line.Step steps → slice ≡ lines → All (IsLineOf task) slice
 lines_within task steps lines slice within are same =
     subst (All (IsLineOf task)) (sym (same ∙ are))
     (All-map (IsLineOf task) line.Step steps
-    (All-weaker (IsStep task) (λ (step : Instance). IsLineOf task (line.Step step)) (λ step is other e. subst (IsStep task) (cc e) is) steps within))
+    (All-weaker (IsStep task) (λ (step : Instance). IsLineOf task (line.Step step))
+    (λ step is other e. subst (IsStep task) (cc e) is) steps within))
 
 -- steps of a task have at most 64 objects
 pub few_objects : (task : Task) (step : Instance) → IsStep task step → length step.args ≤ 64
 few_objects task step is =
-    let within : step.schema < length task.schemas = slice_get_within task.schemas step.schema is.schema is.found in
+    let within : step.schema < length task.schemas = slice_get_within task.schemas step.schema is.schema
+    is.found in
     let of = task.schemas_ok.each step.schema is.schema within in
-    let same : get_or task.schemas step.schema is.schema ≡ is.schema = get_or_from_slice_get task.schemas step.schema is.schema is.schema is.found in
+    let same : get_or task.schemas step.schema is.schema ≡ is.schema =
+    get_or_from_slice_get task.schemas step.schema is.schema is.schema is.found in
     omega (arith, is.many, of.few_parameters, ap (λ (s : Schema). length s.parameters) same)
 
-pub few_each : (task : Task) (steps : List Instance) → All (IsStep task) steps → All (λ (step : Instance). length step.args ≤ 64) steps
-few_each task steps = All-weaker (IsStep task) (λ (step : Instance). length step.args ≤ 64) (λ step. few_objects task step) steps
+pub few_each : (task : Task) (steps : List Instance) → All (IsStep task) steps
+    → All (λ (step : Instance). length step.args ≤ 64) steps
+few_each task steps = All-weaker (IsStep task) (λ (step : Instance). length step.args ≤ 64)
+    (λ step. few_objects task step) steps

@@ -1,15 +1,21 @@
 -- Over told files a request has one outcome.
-use Rattle.std.proofs.Common.{◌≡◌, ℕ, ◌≤◌, nat_le, Bool, true, false, cond, List, [], length, Option, None, Some, ◌⊎◌, inl, inr, refl, sym, ◌∙◌, ap, subst, arith}
+use Rattle.std.proofs.Common.{◌≡◌, ℕ, ◌≤◌, nat_le, Bool, true, false, cond, List, [], length, Option, None}
+use Rattle.std.proofs.Common.{Some, ◌⊎◌, inl, inr, refl, sym, ◌∙◌, ap, subst, arith}
 use Rattle.std.proofs.lemmas.Bool.{leb-true}
 use Rattle.pl_io.specs.Outside.{NamedBytes, content_of, most_file_bytes}
 use Rattle.pl_task.specs.declared.task.Task.{Task}
 use Rattle.pl_task.specs.States.{initial}
-use Rattle.pl_check.specs.Laws.{FirstFaultIsOne, TaskIsOne, HaveFirstFault, HaveTask, FaultOrTask, FaultExcludesTask, LinesAreOne, PlanFaultIsOne, HasPlanFault, HasLines, FaultOrLines, FaultExcludesLines}
+use Rattle.pl_check.specs.Laws.{FirstFaultIsOne, TaskIsOne, HaveFirstFault, HaveTask, FaultOrTask}
+use Rattle.pl_check.specs.Laws.{FaultExcludesTask, LinesAreOne, PlanFaultIsOne, HasPlanFault, HasLines}
+use Rattle.pl_check.specs.Laws.{FaultOrLines, FaultExcludesLines}
 use Rattle.pl_check.specs.declared.role.FileRole.{FileRole}
 use Rattle.pl_check.specs.declared.role.FileRole.TheVariants.{Domain, Problem, Plan}
 use Rattle.pl_valid.specs.Verdict.{IsVerdict}
 use Rattle.pl_hooks.specs.Hopeless.{is_hopeless}
-use Rattle.pl_top.specs.Answer.{Outcome, Reading, IsMadeOutcome, Absent, Overlong, Whole, reading_of, GoesOn, IsRead, IsPlanRead, IsFaultOfPlan, IsVerdictOn, IsJudged, IsListed, IsPlanned, IsSearchOutcome, IsMadeOf, search_outcome, cannot_read, too_long, bytes_of, faulty, verdict_outcome}
+use Rattle.pl_top.specs.Answer.{Outcome, Reading, IsMadeOutcome, Absent, Overlong, Whole, reading_of, GoesOn}
+use Rattle.pl_top.specs.Answer.{IsRead, IsPlanRead, IsFaultOfPlan, IsVerdictOn, IsJudged, IsListed, IsPlanned}
+use Rattle.pl_top.specs.Answer.{IsSearchOutcome, IsMadeOf, search_outcome, cannot_read, too_long, bytes_of}
+use Rattle.pl_top.specs.Answer.{faulty, verdict_outcome}
 use Rattle.pl_top.specs.Laws.{OutcomeIsOne, OutcomeIsThere}
 use Rattle.pl_registry.proofs.SearchLaws.{endings_one, all_have_ending}
 use Rattle.pl_make.specs.Texts.{domain_text, problem_text}
@@ -30,9 +36,11 @@ gone_on role outcome other F G further Absent h k = h ∙ sym k
 gone_on role outcome other F G further Overlong h k = h ∙ sym k
 gone_on role outcome other F G further (Whole bytes) h k = further bytes h k
 
-read_one : (files : List NamedBytes) (place place' : ℕ) (name : List ℕ) (role : FileRole) (outcome other : Outcome)
+read_one : (files : List NamedBytes) (place place' : ℕ) (name : List ℕ) (role : FileRole)
+    (outcome other : Outcome)
     (F G : List ℕ → Type 0) → ((bytes : List ℕ) → F bytes → G bytes → outcome ≡ other) →
-    IsRead (Some files) place name role outcome F → IsRead (Some files) place' name role other G → outcome ≡ other
+    IsRead (Some files) place name role outcome F → IsRead (Some files) place' name role other G
+    → outcome ≡ other
 read_one files place place' name role outcome other F G further h k =
     let same : k.reading ≡ h.reading = k.of_file ∙ sym h.of_file in
     gone_on role outcome other F G further h.reading h.goes_on (subst (GoesOn role other G) same k.goes_on)
@@ -55,7 +63,8 @@ module _ (first_one : FirstFaultIsOne) (task_one : TaskIsOne) (excludes_task : F
       IsVerdictOn task plan other → outcome ≡ other
   verdict_one task plan outcome other h k =
       let lines = lines_one plan task h.lines k.lines h.are k.are in
-      let is = verdict_only task k.lines h.verdict (subst (λ ls. IsVerdict task ls h.verdict) lines h.is_verdict) in
+      let is = verdict_only task k.lines h.verdict
+      (subst (λ ls. IsVerdict task ls h.verdict) lines h.is_verdict) in
       let is' = verdict_only task k.lines k.verdict k.is_verdict in
       h.comes ∙ ap verdict_outcome (sym is ∙ is') ∙ sym k.comes
 
@@ -72,7 +81,8 @@ module _ (first_one : FirstFaultIsOne) (task_one : TaskIsOne) (excludes_task : F
   plan_judged task plan outcome other (inr h) (inr k) = verdict_one task plan outcome other h k
 
   -- the bytes of three files have one outcome
-  judged_one : (domain problem plan : List ℕ) (outcome other : Outcome) → IsJudged domain problem plan outcome →
+  judged_one : (domain problem plan : List ℕ) (outcome other : Outcome)
+      → IsJudged domain problem plan outcome →
       IsJudged domain problem plan other → outcome ≡ other
   judged_one domain problem plan outcome other (inl h) (inl k) =
       h.comes ∙
@@ -89,10 +99,12 @@ module _ (first_one : FirstFaultIsOne) (task_one : TaskIsOne) (excludes_task : F
       (subst (λ t. IsFaultOfPlan plan outcome ⊎ IsVerdictOn t plan outcome) same h.judged) k.judged
 
   -- how a search of one task ends is one outcome
-  search_one : (task : Task) (options : PlanOptions) (outcome other : Outcome) → IsSearchOutcome task options outcome →
+  search_one : (task : Task) (options : PlanOptions) (outcome other : Outcome)
+      → IsSearchOutcome task options outcome →
       IsSearchOutcome task options other → outcome ≡ other
   search_one task options outcome other h k =
-      let one = endings_one task (search_of options) (limit_of options) (is_hopeless task) h.searched.of k.searched.of h.ending k.ending
+      let one = endings_one task (search_of options) (limit_of options)
+      (is_hopeless task) h.searched.of k.searched.of h.ending k.ending
       h.stats k.stats h.searched.ends k.searched.ends in
       h.comes ∙ ap (λ e. search_outcome task options e h.stats) one.1
       ∙ ap (search_outcome task options k.ending) one.2 ∙ sym k.comes
@@ -111,7 +123,8 @@ module _ (first_one : FirstFaultIsOne) (task_one : TaskIsOne) (excludes_task : F
       absurd (excludes_task domain problem k.found h.task k.is_first h.stated)
   planned_one domain problem options outcome other (inr h) (inr k) =
       search_one k.task options outcome other
-      (subst (λ t. IsSearchOutcome t options outcome) (task_one domain problem h.task k.task h.stated k.stated) h.planned) k.planned
+      (subst (λ t. IsSearchOutcome t options outcome)
+      (task_one domain problem h.task k.task h.stated k.stated) h.planned) k.planned
 
   -- the texts of a made task have one outcome
   made_one : (domain problem : List ℕ) (outcome other : Outcome) → IsMadeOf domain problem outcome →
@@ -127,7 +140,8 @@ module _ (first_one : FirstFaultIsOne) (task_one : TaskIsOne) (excludes_task : F
       absurd (excludes_task domain problem k.found h.task k.is_first h.stated)
   made_one domain problem outcome other (inr h) (inr k) =
       made_search_one k.task outcome other
-      (subst (λ t. IsMadeOutcome t outcome) (task_one domain problem h.task k.task h.stated k.stated) h.made) k.made
+      (subst (λ t. IsMadeOutcome t outcome) (task_one domain problem h.task k.task h.stated k.stated) h.made)
+      k.made
 
   pub outcome_one : OutcomeIsOne
   outcome_one (Validate domain problem plan) files place place' outcome other =
@@ -144,7 +158,8 @@ module _ (first_one : FirstFaultIsOne) (task_one : TaskIsOne) (excludes_task : F
       options.count outcome other)))
   outcome_one (FindPlan domain problem options) files place place' outcome other =
       read_one files place place' domain Domain outcome other _ _
-      (λ d. read_one files place place' problem Problem outcome other _ _ (λ p. planned_one d p options outcome other))
+      (λ d. read_one files place place' problem Problem outcome other _ _
+      (λ p. planned_one d p options outcome other))
   outcome_one (Make kind n start) files place place' outcome other =
       made_one (domain_text kind) (problem_text kind n start) outcome other
 
@@ -158,7 +173,9 @@ whole_short (Some content) bytes is = by_length (nat_le (length content) most_fi
   where
     by_length : (short : Bool) → nat_le (length content) most_file_bytes ≡ short →
         cond short (Whole content) Overlong ≡ Whole bytes → length bytes ≤ most_file_bytes
-    by_length true test is = (let same : content ≡ bytes = cc in omega (arith, leb-true (length content) most_file_bytes test, ap length same))
+    by_length true test is =
+        (let same : content ≡ bytes = cc in omega
+        (arith, leb-true (length content) most_file_bytes test, ap length same))
     by_length false test is = cc
 
 -- a file that is read gives an outcome, where its bytes give one
@@ -192,7 +209,8 @@ module _ (fault_or_task : FaultOrTask) (fault_or_lines : FaultOrLines) (excludes
       (outcome : Outcome) × IsJudged domain problem plan outcome
   plan_there domain problem plan has short = by_plan (fault_or_lines plan has.0 short)
     where
-      by_plan : HasPlanFault plan ⊎ HasLines plan has.0 → (outcome : Outcome) × IsJudged domain problem plan outcome
+      by_plan : HasPlanFault plan ⊎ HasLines plan has.0 → (outcome : Outcome)
+          × IsJudged domain problem plan outcome
       by_plan (inl faulted) = (
         faulty plan faulted.0,
         inr (record {
@@ -240,13 +258,15 @@ module _ (fault_or_task : FaultOrTask) (fault_or_lines : FaultOrLines) (excludes
       (outcome : Outcome) × IsPlanned domain problem options outcome
   planned_there domain problem options dle ple some = by_files (fault_or_task domain problem dle ple)
     where
-      by_files : HaveFirstFault domain problem ⊎ HaveTask domain problem → (outcome : Outcome) × IsPlanned domain problem options outcome
+      by_files : HaveFirstFault domain problem ⊎ HaveTask domain problem → (outcome : Outcome)
+          × IsPlanned domain problem options outcome
       by_files (inl faulted) = (
         faulty (bytes_of domain problem faulted.0.file) faulted.0,
         inl (record { found = faulted.0; is_first = faulted.1; comes = refl }),
       )
       by_files (inr has) =
-          (let (of, ending, stats, ends) = all_have_ending has.0 (search_of options) (is_hopeless has.0) (limit_of options) some in (
+          (let (of, ending, stats, ends) = all_have_ending has.0 (search_of options) (is_hopeless has.0)
+          (limit_of options) some in (
             search_outcome has.0 options ending stats,
             inr (record {
               task = has.0;
@@ -261,17 +281,20 @@ module _ (fault_or_task : FaultOrTask) (fault_or_lines : FaultOrLines) (excludes
           ))
 
   -- the texts of a made task give an outcome
-  made_there : (domain problem : List ℕ) → length domain ≤ most_file_bytes → length problem ≤ most_file_bytes →
+  made_there : (domain problem : List ℕ) → length domain ≤ most_file_bytes
+      → length problem ≤ most_file_bytes →
       (outcome : Outcome) × IsMadeOf domain problem outcome
   made_there domain problem dle ple = by_files (fault_or_task domain problem dle ple)
     where
-      by_files : HaveFirstFault domain problem ⊎ HaveTask domain problem → (outcome : Outcome) × IsMadeOf domain problem outcome
+      by_files : HaveFirstFault domain problem ⊎ HaveTask domain problem → (outcome : Outcome)
+          × IsMadeOf domain problem outcome
       by_files (inl faulted) = (
         faulty (bytes_of domain problem faulted.0.file) faulted.0,
         inl (record { found = faulted.0; is_first = faulted.1; comes = refl }),
       )
       by_files (inr has) =
-          (let found = made_search_there has.0 in (found.0, inr (record { task = has.0; stated = has.1; made = found.1 })))
+          (let found = made_search_there has.0 in
+          (found.0, inr (record { task = has.0; stated = has.1; made = found.1 })))
 
   pub outcome_there : OutcomeIsThere
   outcome_there (Validate domain problem plan) files place runs =
@@ -289,4 +312,5 @@ module _ (fault_or_task : FaultOrTask) (fault_or_lines : FaultOrLines) (excludes
       read_there files place domain Domain _
       (λ d dle. read_there files place problem Problem _ (λ p ple. planned_there d p options dle ple runs.0))
   outcome_there (Make kind n start) files place runs =
-      made_there (domain_text kind) (problem_text kind n start) (domain_text-short kind) (problem_text-short kind n start runs)
+      made_there (domain_text kind) (problem_text kind n start) (domain_text-short kind)
+      (problem_text-short kind n start runs)

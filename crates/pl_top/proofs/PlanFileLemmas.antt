@@ -6,7 +6,8 @@ use Rattle.pl_check.specs.Stated.{AreStated}
 use Rattle.pl_task.specs.declared.task.Task.{Task}
 use Rattle.pl_top.specs.declared.refusal.Refusal.{Refusal}
 use Rattle.pl_top.specs.declared.refusal.Refusal.TheVariants as refused
-use Rattle.pl_top.specs.Answer.{Outcome, Whole, IsReadingOf, IsAnswer, IsInputFault, IsPlanned, IsSearchOutcome}
+use Rattle.pl_top.specs.Answer.{Outcome, Whole, IsReadingOf, IsAnswer, IsInputFault, IsPlanned}
+use Rattle.pl_top.specs.Answer.{IsSearchOutcome}
 use Rattle.pl_top.specs.Refusal.{HasBegun, IsRefused, IsUnread, IsUnanswered}
 use Rattle.pl_top.specs.Request.{Request, PlanOptions, FindPlan}
 use Rattle.pl_top.proofs.FileLemmas.{begun_first, begun_next, IsRead-weaker, unread}
@@ -36,11 +37,13 @@ module _ (domain problem : List ℕ) (options : PlanOptions) where
   }
 
   -- the answer is that of the search of the task
-  pub searched_files : (files : Option (List NamedBytes)) (place : ℕ) (d p : List ℕ) (task : Task) (outcome : Outcome)
+  pub searched_files : (files : Option (List NamedBytes)) (place : ℕ) (d p : List ℕ) (task : Task)
+      (outcome : Outcome)
       → IsReadingOf files place domain (Whole d) → IsReadingOf files place problem (Whole p)
       → AreStated d p task → IsSearchOutcome task options outcome → IsAnswer asked files place outcome
   searched_files files place d p task outcome first second stated planned =
-      whole_files files place d p outcome first second (inr (record { task = task; stated = stated; planned = planned }))
+      whole_files files place d p outcome first second
+      (inr (record { task = task; stated = stated; planned = planned }))
 
   -- the domain isn't read whole
   pub no_domain : (shelf one : ShelfSeen) (r : Refusal) → HasBegun asked 1 shelf one
@@ -60,7 +63,8 @@ module _ (domain problem : List ℕ) (options : PlanOptions) where
       (λ outcome stops. record {
         reading = Whole d;
         of_file = first two.place;
-        goes_on = IsRead-weaker shelf.files two.place problem Problem outcome _ _ (λ bytes none. absurd none) stops;
+        goes_on = IsRead-weaker shelf.files two.place problem Problem outcome _ _
+            (λ bytes none. absurd none) stops;
       })
 
   -- files that are read whole state no task

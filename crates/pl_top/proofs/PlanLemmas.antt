@@ -18,17 +18,21 @@ use Rattle.pl_print.specs.Texts.{step_text}
 use Rattle.pl_top.specs.declared.plan_options.PlanOptions.{PlanOptions as AskedOptions}
 use Rattle.pl_top.specs.Answer.{IsSearchOutcome, search_outcome}
 use Rattle.pl_top.specs.Asked.{kind_named, plan_options_named}
-use Rattle.pl_top.specs.Searching.{AreStepsOf, IsSearchedBy, ended_text, ending_status, ending_text, counts_text, limit_or_default, search_or_bfs}
+use Rattle.pl_top.specs.Searching.{AreStepsOf, IsSearchedBy, ended_text, ending_status, ending_text}
+use Rattle.pl_top.specs.Searching.{counts_text, limit_or_default, search_or_bfs}
 use Rattle.pl_top.specs.Writing.{Writes, Finishes}
 
 -- steps that are executed are steps of the task
-executed_steps : (task : Task) (s last : State) (steps : List Instance) → Executes task s steps last → All (IsStep task) steps
+executed_steps : (task : Task) (s last : State) (steps : List Instance) → Executes task s steps last
+    → All (IsStep task) steps
 executed_steps task s last [] h = All-nil (IsStep task)
 executed_steps task s last (step ∷ steps) h =
-    All-cons (IsStep task) step steps (applicable_step task s step h.0) (executed_steps task (result_of task s step) last steps h.1)
+    All-cons (IsStep task) step steps (applicable_step task s step h.0)
+    (executed_steps task (result_of task s step) last steps h.1)
 
 -- a plan that a search found is of steps of the task
-pub steps_of : (task : Task) (by : Search) (limit : ℕ) (ending : Ending) (stats : Stats) → IsSearchedBy task by limit ending stats →
+pub steps_of : (task : Task) (by : Search) (limit : ℕ) (ending : Ending) (stats : Stats)
+    → IsSearchedBy task by limit ending stats →
     AreStepsOf task ending
 steps_of task by limit (Found plan) stats h =
     let (last, executed, goal) = found_lists task by (is_hopeless task) limit h.of plan stats h.ends in
@@ -56,7 +60,8 @@ some_ending task limit Limit none = cc none
 
 pub ended_text_some : (task : Task) (limit : ℕ) (asked : Bool) (ending : Ending) (stats : Stats) →
     ended_text task limit asked ending stats ≢ []
-ended_text_some task limit asked ending stats = before _ (counts_text asked stats) (some_ending task limit ending)
+ended_text_some task limit asked ending stats = before _ (counts_text asked stats)
+    (some_ending task limit ending)
 
 -- the status of an ending isn't 4
 status_other : (ending : Ending) → ending_status ending ≢ 4
@@ -66,11 +71,13 @@ status_other Exhausted four = cc four
 status_other Limit four = cc four
 
 -- an ending that was printed is that of the search that the options name
-pub solved : (task : Task) (options : AskedOptions) (by : Search) (limit : ℕ) (ending : Ending) (stats : Stats)
+pub solved : (task : Task) (options : AskedOptions) (by : Search) (limit : ℕ) (ending : Ending)
+    (stats : Stats)
     (out out' err err' : SinkSeen) (result : ℕ) → by ≡ search_or_bfs (option_map kind_named options.search)
     → limit ≡ limit_or_default options.limit
     → IsSearchedBy task by limit ending stats
-    → Writes (ended_text task limit options.stats ending stats) (ending_status ending) out out' err err' result
+    → Writes (ended_text task limit options.stats ending stats) (ending_status ending) out out' err err'
+    result
     → Finishes (IsSearchOutcome task (plan_options_named options)) out out' err err' result
 solved task options by limit ending stats out out' err err' result named is h writes = inl (record {
   outcome = search_outcome task (plan_options_named options) ending stats;
@@ -79,12 +86,14 @@ solved task options by limit ending stats out out' err err' result named is h wr
     stats = stats;
     searched = record {
       of = h.of;
-      ends = subst (λ (s : Search). IsEndingOf task (is_hopeless task) s (limit_or_default options.limit) h.of ending stats) named
+      ends = subst (λ (s : Search). IsEndingOf task (is_hopeless task) s
+          (limit_or_default options.limit) h.of ending stats) named
           (subst (λ l. IsEndingOf task (is_hopeless task) by l h.of ending stats) is h.ends);
     };
     comes = refl;
   };
   no_line = refl;
   other = status_other ending;
-  writes = subst (λ l. Writes (ended_text task l options.stats ending stats) (ending_status ending) out out' err err' result) is writes;
+  writes = subst (λ l. Writes (ended_text task l options.stats ending stats)
+      (ending_status ending) out out' err err' result) is writes;
 })

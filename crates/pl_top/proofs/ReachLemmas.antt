@@ -19,17 +19,21 @@ leads task s state [] done = sym done
 leads task s state (step ∷ steps) (applicable, rest) = leads task (result_of task s step) state steps rest
 
 -- lines that are executed lead to the state after them
-executed_lines : (task : Task) (lines : List PlanLine) (steps : List Instance) (state : State) → lines ≡ map line.Step steps
-    → Executes task (initial task) steps state → AreExecuted task lines (after_lines task (initial task) lines)
+executed_lines : (task : Task) (lines : List PlanLine) (steps : List Instance) (state : State)
+    → lines ≡ map line.Step steps
+    → Executes task (initial task) steps state → AreExecuted task lines
+    (after_lines task (initial task) lines)
 executed_lines task lines steps state are executed = record {
   steps = steps;
   lines_are = are;
   executed = subst (Executes task (initial task) steps)
-      (leads task (initial task) state steps executed ∙ ap (after_lines task (initial task)) (sym are)) executed;
+      (leads task (initial task) state steps executed ∙ ap (after_lines task (initial task)) (sym are))
+      executed;
 }
 
 -- a valid plan is executed
-pub valid_lines : (task : Task) (lines : List PlanLine) (verdict : Verdict) (count : ℕ) → verdict ≡ Valid count
+pub valid_lines : (task : Task) (lines : List PlanLine) (verdict : Verdict) (count : ℕ)
+    → verdict ≡ Valid count
     → IsVerdict task lines verdict → AreExecuted task lines (after_lines task (initial task) lines)
 valid_lines task lines verdict count is h =
     let found = subst (IsVerdict task lines) is h in
@@ -43,7 +47,8 @@ missing_lines task lines verdict is h =
     executed_lines task lines missed.steps missed.state missed.lines_are missed.executed
 
 -- a further line
-pub more_lines : (task : Task) (lines : List PlanLine) (i : ℕ) (d : PlanLine) (s next all : State) → i < length lines
+pub more_lines : (task : Task) (lines : List PlanLine) (i : ℕ) (d : PlanLine) (s next all : State)
+    → i < length lines
     → next ≡ after_line task s (get_or lines i d) → after_lines task s (drop i lines) ≡ all
     → after_lines task next (drop (i + 1) lines) ≡ all
 more_lines task lines i d s next all here moved so_far =

@@ -29,11 +29,13 @@ on_err P (Ok x) p = tt
 on_err P (Err e) p = p
 
 -- a fact at an error leads to a further one
-pub on_err_weaker : {T E : Type 0} (P Q : Type 0) (result : Result T E) → (P → Q) → OnErr result P → OnErr result Q
+pub on_err_weaker : {T E : Type 0} (P Q : Type 0) (result : Result T E) → (P → Q) → OnErr result P
+    → OnErr result Q
 on_err_weaker P Q (Ok x) weaker h = tt
 on_err_weaker P Q (Err e) weaker h = weaker h
 
 -- a fact at a success leads to a further one
-pub on_ok_weaker : {T E : Type 0} (P Q : Type 0) (result : Result T E) → (P → Q) → OnOk result P → OnOk result Q
+pub on_ok_weaker : {T E : Type 0} (P Q : Type 0) (result : Result T E) → (P → Q) → OnOk result P
+    → OnOk result Q
 on_ok_weaker P Q (Ok x) weaker h = weaker h
 on_ok_weaker P Q (Err e) weaker h = tt

@@ -1,22 +1,28 @@
 -- How a run ends, from what its parts did; without a fault it has its answer, or memory ran out.
-use Rattle.std.proofs.Common.{◌≡◌, ◌≢◌, ℕ, ◌≤◌, Bool, true, cond, List, [], length, Option, Some, None, ◌⊎◌, inl, inr, refl, sym, ◌∙◌, ap, subst, nat_le, append-nil, arith, IfSome}
+use Rattle.std.proofs.Common.{◌≡◌, ◌≢◌, ℕ, ◌≤◌, Bool, true, cond, List, [], length, Option, Some, None, ◌⊎◌}
+use Rattle.std.proofs.Common.{inl, inr, refl, sym, ◌∙◌, ap, subst, nat_le, append-nil, arith, IfSome}
 use Rattle.std.proofs.lemmas.Bool.{le-leb}
 use Rattle.std.specs.Io.KnownBytes.{Appends}
 use Rattle.std.proofs.KnownBytes.{Appends-nil}
-use Rattle.pl_io.specs.Outside.{NamedBytes, ShelfSeen, SinkSeen, AppendsFront, Rose, content_of, most_file_bytes}
+use Rattle.pl_io.specs.Outside.{NamedBytes, ShelfSeen, SinkSeen, AppendsFront, Rose, content_of}
+use Rattle.pl_io.specs.Outside.{most_file_bytes}
 use Rattle.pl_valid.specs.declared.verdict.Verdict.{Verdict}
 use Rattle.pl_valid.specs.declared.verdict.Verdict.TheVariants.{Valid, Invalid, GoalMissed}
 use Rattle.pl_top.specs.declared.refusal.Refusal.{Refusal}
 use Rattle.pl_top.specs.declared.refusal.Refusal.TheVariants as refused
 use Rattle.pl_check.specs.declared.role.FileRole.{FileRole}
 use Rattle.pl_check.specs.declared.role.FileRole.TheVariants.{Domain, Problem, Plan}
-use Rattle.pl_top.specs.Answer.{Outcome, Whole, Overlong, reading_of, GoesOn, IsRead, IsAnswer, IsJudged, IsListed, IsWorked, IsFaultOfAny, IsNoStep, IsPlanRead, IsPlanned, IsMade, IsMadeOf, verdict_outcome}
+use Rattle.pl_top.specs.Answer.{Outcome, Whole, Overlong, reading_of, GoesOn, IsRead, IsAnswer, IsJudged}
+use Rattle.pl_top.specs.Answer.{IsListed, IsWorked, IsFaultOfAny, IsNoStep, IsPlanRead, IsPlanned, IsMade}
+use Rattle.pl_top.specs.Answer.{IsMadeOf, verdict_outcome}
 use Rattle.pl_top.specs.Refusal.{outcome_of, HasBegun, IsForced, IsOfLast, IsRefused}
 use Rattle.pl_make.specs.declared.kind.Kind.{Kind}
 use Rattle.pl_make.specs.Texts.{domain_text, problem_text}
 use Rattle.pl_top.specs.Request.{Request, PlanOptions, Validate, Successors, FindPlan, Make}
 use Rattle.pl_top.specs.Writing.{Writes}
-use Rattle.pl_top.specs.Run.{Ending, RunEnds, IsCause, AreFaultless, AreSound, AreTold, IsFaultlessPlan, IsStepOfStated, EndsWith, status_of, Answered, StoppedReading, StoppedWriting, OutOfMemory, IsPut, IsLinePut, IsStatusOf, IsComplete}
+use Rattle.pl_top.specs.Run.{Ending, RunEnds, IsCause, AreFaultless, AreSound, AreTold, IsFaultlessPlan}
+use Rattle.pl_top.specs.Run.{IsStepOfStated, EndsWith, status_of, Answered, StoppedReading, StoppedWriting}
+use Rattle.pl_top.specs.Run.{OutOfMemory, IsPut, IsLinePut, IsStatusOf, IsComplete}
 use Rattle.pl_top.proofs.PlannedLemmas.{ending_has_status}
 use Rattle.pl_top.proofs.MadeLemmas.{made_has_status}
 use Rattle.pl_task.specs.declared.plan.PlanLine.{PlanLine}
@@ -190,7 +196,8 @@ pub read_whole : (files : List NamedBytes) (place : ℕ) (name : List ℕ) (role
 read_whole files place name role outcome Further bytes told short h =
     let whole : h.reading ≡ Whole bytes =
     h.of_file ∙ ap reading_of told
-    ∙ short_reading bytes (nat_le (length bytes) most_file_bytes) (eq-le (length bytes) most_file_bytes short) in
+    ∙ short_reading bytes (nat_le (length bytes) most_file_bytes)
+    (eq-le (length bytes) most_file_bytes short) in
     subst (GoesOn role outcome Further) whole h.goes_on
 
 -- status 0 or 1
@@ -220,7 +227,8 @@ HasNoFault bytes = (found : InputFault) → IsPlanFault bytes found → ⊥
 -- a plan file without a fault is read whole, where one is named
 plan_known : (files : List NamedBytes) (place : ℕ) (after : Option (List ℕ)) (outcome : Outcome)
     (Further : Option (List ℕ) → Type 0) → IfSome after (IsFaultlessPlan files)
-    → IsPlanRead (Some files) place after outcome Further → (l : Option (List ℕ)) × IfSome l HasNoFault × Further l
+    → IsPlanRead (Some files) place after outcome Further → (l : Option (List ℕ)) × IfSome l HasNoFault
+    × Further l
 plan_known files place None outcome Further s h = (None, tt, h)
 plan_known files place (Some name) outcome Further s h = (
   Some s.bytes,
@@ -229,20 +237,23 @@ plan_known files place (Some name) outcome Further s h = (
 )
 
 -- a plan file without a fault isn't refused
-no_fault_of_any : (plan : Option (List ℕ)) (outcome : Outcome) → IfSome plan HasNoFault → IsFaultOfAny plan outcome → ⊥
+no_fault_of_any : (plan : Option (List ℕ)) (outcome : Outcome) → IfSome plan HasNoFault
+    → IsFaultOfAny plan outcome → ⊥
 no_fault_of_any None outcome s h = h
 no_fault_of_any (Some plan) outcome s h = s h.found h.is_first
 
 -- a step isn't refused
 no_refused_step : (domain problem : List ℕ) (task : Task) (text : Option (List ℕ)) (outcome : Outcome)
-    → IfSome text (IsStepOfStated domain problem) → AreStated domain problem task → IsNoStep task text outcome → ⊥
+    → IfSome text (IsStepOfStated domain problem) → AreStated domain problem task → IsNoStep task text outcome
+    → ⊥
 no_refused_step domain problem task None outcome s stated h = h
 no_refused_step domain problem task (Some text) outcome s stated h =
     let found = s task stated in
     h.0 found.0 found.1
 
 -- a list or a verdict has its status
-worked_status : (task : Task) (lines : List PlanLine) (past : Option Instance) (count : Option ℕ) (outcome : Outcome)
+worked_status : (task : Task) (lines : List PlanLine) (past : Option Instance) (count : Option ℕ)
+    (outcome : Outcome)
     → IsWorked task lines past count outcome → IsVerdictStatus outcome.status
 worked_status task lines past count outcome (inl h) =
     subst (λ (o : Outcome). IsVerdictStatus o.status) (sym h.comes) (inr refl)
@@ -254,7 +265,8 @@ listed_status : (domain problem : List ℕ) (plan text : Option (List ℕ)) (cou
     → ((found : InputFault) → IsFirstFault domain problem found → ⊥) → IfSome plan HasNoFault
     → IfSome text (IsStepOfStated domain problem)
     → IsListed domain problem plan text count outcome → IsVerdictStatus outcome.status
-listed_status domain problem plan text count outcome no_input no_plan step (inl h) = absurd (no_input h.found h.is_first)
+listed_status domain problem plan text count outcome no_input no_plan step (inl h) =
+    absurd (no_input h.found h.is_first)
 listed_status domain problem plan text count outcome no_input no_plan step (inr h) = elim h.listed [
   | inl f ↦ absurd (no_fault_of_any plan outcome no_plan f)
   | inr l ↦ elim l.comes [
@@ -274,7 +286,8 @@ planned_status domain problem options outcome no_input (inr h) =
 
 -- texts without a fault come to how a search of their task ends
 made_status : (kind : Kind) (n start : ℕ) (outcome : Outcome) → AreSound kind n start
-    → IsMadeOf (domain_text kind) (problem_text kind n start) outcome → IsStatusOf (Make kind n start) outcome.status
+    → IsMadeOf (domain_text kind) (problem_text kind n start) outcome
+    → IsStatusOf (Make kind n start) outcome.status
 made_status kind n start outcome sound (inl h) = absurd (sound h.found h.is_first)
 made_status kind n start outcome sound (inr h) =
     made_has_status h.task h.made.ending h.made.stats outcome h.made.searched h.made.comes
@@ -284,24 +297,32 @@ answer_status : (request : Request) (files : List NamedBytes) (place : ℕ) (out
     → AreFaultless request files → IsAnswer request (Some files) place outcome
     → IsStatusOf request outcome.status
 answer_status (Validate domain problem plan) files place outcome s answer =
-    let first = read_whole files place domain Domain outcome _ s.domain_bytes s.domain_told s.domain_short answer in
-    let two = read_whole files place problem Problem outcome _ s.problem_bytes s.problem_told s.problem_short first in
+    let first = read_whole files place domain Domain outcome _ s.domain_bytes s.domain_told s.domain_short
+    answer in
+    let two = read_whole files place problem Problem outcome _ s.problem_bytes s.problem_told s.problem_short
+    first in
     let three = read_whole files place plan Plan outcome _ s.plan_bytes s.plan_told s.plan_short two in
     judged_status s.domain_bytes s.problem_bytes s.plan_bytes outcome s.no_input_fault s.no_plan_fault three
 answer_status (Successors domain problem options) files place outcome s answer =
-    let first = read_whole files place domain Domain outcome _ s.domain_bytes s.domain_told s.domain_short answer in
-    let two = read_whole files place problem Problem outcome _ s.problem_bytes s.problem_told s.problem_short first in
+    let first = read_whole files place domain Domain outcome _ s.domain_bytes s.domain_told s.domain_short
+    answer in
+    let two = read_whole files place problem Problem outcome _ s.problem_bytes s.problem_told s.problem_short
+    first in
     let plan = plan_known files place options.after outcome _ s.plan two in
-    listed_status s.domain_bytes s.problem_bytes plan.0 options.past options.count outcome s.no_input_fault plan.1 s.past plan.2
+    listed_status s.domain_bytes s.problem_bytes plan.0 options.past options.count outcome s.no_input_fault
+    plan.1 s.past plan.2
 answer_status (FindPlan domain problem options) files place outcome s answer =
-    let first = read_whole files place domain Domain outcome _ s.domain_bytes s.domain_told s.domain_short answer in
-    let two = read_whole files place problem Problem outcome _ s.problem_bytes s.problem_told s.problem_short first in
+    let first = read_whole files place domain Domain outcome _ s.domain_bytes s.domain_told s.domain_short
+    answer in
+    let two = read_whole files place problem Problem outcome _ s.problem_bytes s.problem_told s.problem_short
+    first in
     planned_status s.domain_bytes s.problem_bytes options outcome s.no_input_fault two
 answer_status (Make kind n start) files place outcome s answer = made_status kind n start outcome s answer
 
 -- the answer to a request is that over the files that it is told
 over_told : (request : Request) (shelf : ShelfSeen) (files : List NamedBytes) (place : ℕ) (outcome : Outcome)
-    → AreTold request shelf files → IsAnswer request shelf.files place outcome → IsAnswer request (Some files) place outcome
+    → AreTold request shelf files → IsAnswer request shelf.files place outcome
+    → IsAnswer request (Some files) place outcome
 over_told (Validate domain problem plan) shelf files place outcome told answer =
     subst (λ f. IsAnswer (Validate domain problem plan) f place outcome) told answer
 over_told (Successors domain problem options) shelf files place outcome told answer =
@@ -320,7 +341,8 @@ run_complete request shelf shelf' out out' err err' result h files told faultles
         → IsStatusOf request result ⊎ (result ≡ 8)
     by_ending (Answered outcome) cause status =
         let answer = over_told request shelf files shelf'.place outcome told cause in
-        inl (subst (IsStatusOf request) (sym status) (answer_status request files shelf'.place outcome faultless answer))
+        inl (subst (IsStatusOf request) (sym status)
+        (answer_status request files shelf'.place outcome faultless answer))
     by_ending (StoppedReading role) cause status = absurd (readable cause.0)
     by_ending (StoppedWriting outcome) cause status = absurd (writable cause.1)
     by_ending OutOfMemory cause status = inr status

@@ -13,7 +13,8 @@ use Rattle.pl_registry.specs.declared.ended.Stats.{Stats}
 use Rattle.pl_registry.specs.Cut.{IsCut, IsKept}
 use Rattle.pl_registry.specs.declared.search.Search.{Search}
 use Rattle.pl_registry.specs.declared.search.Search.TheVariants as search
-use Rattle.pl_registry.specs.Ending.{Ending, IsEnding, IsEndingOf, IsWidthEnding, IsUncut, IsFull, by_number, ending_of}
+use Rattle.pl_registry.specs.Ending.{Ending, IsEnding, IsEndingOf, IsWidthEnding, IsUncut, IsFull, by_number}
+use Rattle.pl_registry.specs.Ending.{ending_of}
 use Rattle.pl_registry.specs.Ending.Ending.{Found, Unsolvable, Exhausted, Limit}
 use Rattle.pl_registry.specs.Registered.{Register}
 use Rattle.pl_registry.specs.SearchRecord.{SearchRecord, IsRecordUpTo, pair_at}
@@ -27,7 +28,8 @@ use Rattle.pl_greedy.specs.Greedy.{IsGreedy}
 use Rattle.pl_top.specs.Searching.{IsOfWidth, IsSearchedBy}
 
 -- what may be dropped and what kept leads to what else may be
-module _ (space : StateSpace) (D K D' K' : State → Type 0) (drops : (s : State) → D s → D' s) (keeps : (s : State) → K s → K' s)
+module _ (space : StateSpace) (D K D' K' : State → Type 0) (drops : (s : State) → D s → D' s)
+    (keeps : (s : State) → K s → K' s)
     (rank : State → ℕ) (limit : ℕ) (r : SearchRecord) (stats : Stats) where
   stands_weaker : IsRecordUpTo space (λ _. D) (λ _. K) rank r → IsRecordUpTo space (λ _. D') (λ _. K') rank r
   stands_weaker h = record {
@@ -64,7 +66,8 @@ module _ (space : StateSpace) (D K D' K' : State → Type 0) (drops : (s : State
     stats_are = h.stats_are;
   }
 
-  pub ending_weaker : (ending : Ending) → IsEnding space D K rank limit r ending stats → IsEnding space D' K' rank limit r ending stats
+  pub ending_weaker : (ending : Ending) → IsEnding space D K rank limit r ending stats
+      → IsEnding space D' K' rank limit r ending stats
   ending_weaker (Found plan) (inl h) = inl h
   ending_weaker (Found plan) (inr (uncut, found)) = inr (uncut_weaker uncut, found)
   ending_weaker Unsolvable (inl (goal, dropped, once)) = inl (goal, drops space.initial dropped, once)
@@ -73,20 +76,27 @@ module _ (space : StateSpace) (D K D' K' : State → Type 0) (drops : (s : State
   ending_weaker Limit (uncut, full) = (uncut_weaker uncut, full_weaker full)
 
 -- a search whose closure says which states are hopeless ends as one that cuts these
-pub breadth_ends : {F : Type 0} (calls : Shared F (Bor (List ℕ) × Unit {0}) Bool) (task over : Task) (cut : F) (limit : ℕ)
+pub breadth_ends : {F : Type 0} (calls : Shared F (Bor (List ℕ) × Unit {0}) Bool) (task over : Task) (cut : F)
+    (limit : ℕ)
     (old new : Register) (ended : Ended) → over ≡ task → old.limit ≡ limit
     → IsHopelessCut calls task cut
     → (h : IsBreadth calls over cut old new ended)
-    → IsEnding (space_of task) (IsCut (is_hopeless task)) (IsKept (is_hopeless task)) by_number limit h.of (ending_of ended.outcome) ended.stats
+    → IsEnding (space_of task) (IsCut (is_hopeless task)) (IsKept (is_hopeless task)) by_number limit h.of
+    (ending_of ended.outcome) ended.stats
 breadth_ends calls task over cut limit old new ended same fits says h =
     let told : IsHopelessCut calls over cut = subst (λ t. IsHopelessCut calls t cut) (sym same) says in
-    subst (λ t. IsEnding (space_of t) (IsCut (is_hopeless t)) (IsKept (is_hopeless t)) by_number limit h.of (ending_of ended.outcome) ended.stats) same
-    (subst (λ l. IsEnding (space_of over) (IsCut (is_hopeless over)) (IsKept (is_hopeless over)) by_number l h.of (ending_of ended.outcome) ended.stats) fits
-    (ending_weaker (space_of over) (MayDrop calls over cut) (MayKeep calls over cut) (IsCut (is_hopeless over)) (IsKept (is_hopeless over))
-    (drops_hopeless calls over cut told) (keeps_hopeful calls over cut told) by_number old.limit h.of ended.stats
+    subst (λ t. IsEnding (space_of t) (IsCut (is_hopeless t)) (IsKept (is_hopeless t)) by_number limit h.of
+    (ending_of ended.outcome) ended.stats) same
+    (subst (λ l. IsEnding (space_of over) (IsCut (is_hopeless over))
+    (IsKept (is_hopeless over)) by_number l h.of (ending_of ended.outcome) ended.stats) fits
+    (ending_weaker (space_of over) (MayDrop calls over cut) (MayKeep calls over cut)
+    (IsCut (is_hopeless over)) (IsKept (is_hopeless over))
+    (drops_hopeless calls over cut told) (keeps_hopeful calls over cut told) by_number old.limit h.of
+    ended.stats
     (ending_of ended.outcome) h.ending))
 
-pub breadth_searched : {F E : Type 0} (calls : Shared F (Bor (List ℕ) × Unit {0}) Bool) (task over : Task) (given cut : F)
+pub breadth_searched : {F E : Type 0} (calls : Shared F (Bor (List ℕ) × Unit {0}) Bool) (task over : Task)
+    (given cut : F)
     (limit : ℕ) (old new : Register) → over ≡ task → old.limit ≡ limit
     → (result : Result Ended E) → IfOk result (IsBreadth calls over given old new)
     → given ≡ cut → IsHopelessCut calls task cut
@@ -99,20 +109,27 @@ breadth_searched calls task over given cut limit old new same fits (Ok ended) h 
 breadth_searched calls task over given cut limit old new same fits (Err e) h is says = tt
 
 -- and so does greedy best-first search
-pub greedy_ends : {F : Type 0} (calls : Shared F (Bor (List ℕ) × Unit {0}) Bool) (task over : Task) (cut : F) (limit : ℕ)
+pub greedy_ends : {F : Type 0} (calls : Shared F (Bor (List ℕ) × Unit {0}) Bool) (task over : Task) (cut : F)
+    (limit : ℕ)
     (old new : Register) (ended : Ended) → over ≡ task → old.limit ≡ limit
     → IsHopelessCut calls task cut
     → (h : IsGreedy calls over cut old new ended)
-    → IsEnding (space_of task) (IsCut (is_hopeless task)) (IsKept (is_hopeless task)) (unmet task) limit h.of (ending_of ended.outcome) ended.stats
+    → IsEnding (space_of task) (IsCut (is_hopeless task)) (IsKept (is_hopeless task)) (unmet task) limit h.of
+    (ending_of ended.outcome) ended.stats
 greedy_ends calls task over cut limit old new ended same fits says h =
     let told : IsHopelessCut calls over cut = subst (λ t. IsHopelessCut calls t cut) (sym same) says in
-    subst (λ t. IsEnding (space_of t) (IsCut (is_hopeless t)) (IsKept (is_hopeless t)) (unmet t) limit h.of (ending_of ended.outcome) ended.stats) same
-    (subst (λ l. IsEnding (space_of over) (IsCut (is_hopeless over)) (IsKept (is_hopeless over)) (unmet over) l h.of (ending_of ended.outcome) ended.stats) fits
-    (ending_weaker (space_of over) (MayDrop calls over cut) (MayKeep calls over cut) (IsCut (is_hopeless over)) (IsKept (is_hopeless over))
-    (drops_hopeless calls over cut told) (keeps_hopeful calls over cut told) (unmet over) old.limit h.of ended.stats
+    subst (λ t. IsEnding (space_of t) (IsCut (is_hopeless t)) (IsKept (is_hopeless t)) (unmet t) limit h.of
+    (ending_of ended.outcome) ended.stats) same
+    (subst (λ l. IsEnding (space_of over) (IsCut (is_hopeless over)) (IsKept (is_hopeless over))
+    (unmet over) l h.of (ending_of ended.outcome) ended.stats) fits
+    (ending_weaker (space_of over) (MayDrop calls over cut) (MayKeep calls over cut)
+    (IsCut (is_hopeless over)) (IsKept (is_hopeless over))
+    (drops_hopeless calls over cut told) (keeps_hopeful calls over cut told)
+    (unmet over) old.limit h.of ended.stats
     (ending_of ended.outcome) h.ending))
 
-pub greedy_searched : {F E : Type 0} (calls : Shared F (Bor (List ℕ) × Unit {0}) Bool) (task over : Task) (given cut : F)
+pub greedy_searched : {F E : Type 0} (calls : Shared F (Bor (List ℕ) × Unit {0}) Bool) (task over : Task)
+    (given cut : F)
     (limit : ℕ) (old new : Register) → over ≡ task → old.limit ≡ limit
     → (result : Result Ended E) → IfOk result (IsGreedy calls over given old new)
     → given ≡ cut → IsHopelessCut calls task cut
@@ -125,36 +142,44 @@ greedy_searched calls task over given cut limit old new same fits (Ok ended) h i
 greedy_searched calls task over given cut limit old new same fits (Err e) h is says = tt
 
 -- what a closure counts for a task it counts for the same one
-pub counts_so : {F : Type 0} (calls : Shared F (Bor (List ℕ) × Unit {0}) ℕ) (task same : Task) (rank : F) → task ≡ same →
+pub counts_so : {F : Type 0} (calls : Shared F (Bor (List ℕ) × Unit {0}) ℕ) (task same : Task) (rank : F)
+    → task ≡ same →
     IsUnmetCount calls task rank → IsUnmetCount calls same rank
 counts_so calls task same rank is h = subst (λ (t : Task). IsUnmetCount calls t rank) is h
 
 -- a width search is the one by its width
 module _ (task : Task) (limit : ℕ) (r : SearchRecord) (ending : Ending) (stats : Stats) where
-  width_by : (by : Search) (k : ℕ) → IsOfWidth by k → IsWidthEnding (space_of task) task k limit r ending stats →
+  width_by : (by : Search) (k : ℕ) → IsOfWidth by k
+      → IsWidthEnding (space_of task) task k limit r ending stats →
       IsEndingOf task (is_hopeless task) by limit r ending stats
   width_by search.Bfs k of h = absurd of
   width_by search.Gbfs k of h = absurd of
   width_by search.Iw1 k of h = subst (λ n. IsWidthEnding (space_of task) task n limit r ending stats) of h
   width_by search.Iw2 k of h = subst (λ n. IsWidthEnding (space_of task) task n limit r ending stats) of h
 
-pub width_ends : (task over : Task) (by : Search) (k limit : ℕ) (old new : Register) (ended : WidthEnded) → over ≡ task →
+pub width_ends : (task over : Task) (by : Search) (k limit : ℕ) (old new : Register) (ended : WidthEnded)
+    → over ≡ task →
     old.limit ≡ limit → IsOfWidth by k → (h : IsWidth over k old new ended) →
     IsEndingOf task (is_hopeless task) by limit h.of (ending_of_width ended.outcome) ended.stats
 width_ends task over by k limit old new ended same fits of h =
     width_by task limit h.of (ending_of_width ended.outcome) ended.stats by k of
-    (subst (λ (t : Task). IsWidthEnding (space_of t) t k limit h.of (ending_of_width ended.outcome) ended.stats) same
-    (subst (λ l. IsWidthEnding (space_of over) over k l h.of (ending_of_width ended.outcome) ended.stats) fits h.is))
+    (subst (λ (t : Task). IsWidthEnding (space_of t) t k limit h.of
+    (ending_of_width ended.outcome) ended.stats) same
+    (subst (λ l. IsWidthEnding (space_of over) over k l h.of (ending_of_width ended.outcome) ended.stats) fits
+    h.is))
 
-pub width_searched : (task over : Task) (by : Search) (k limit : ℕ) (old new : Register) (ended : WidthEnded) → over ≡ task →
+pub width_searched : (task over : Task) (by : Search) (k limit : ℕ) (old new : Register) (ended : WidthEnded)
+    → over ≡ task →
     old.limit ≡ limit → IsOfWidth by k → IsWidth over k old new ended →
     IsSearchedBy task by limit (ending_of_width ended.outcome) ended.stats
 width_searched task over by k limit old new ended same fits of h =
     record { of = h.of; ends = width_ends task over by k limit old new ended same fits of h }
 
 -- the same search with the same end
-pub searched_so : (task : Task) (by same : Search) (limit : ℕ) (ending alike : Ending) (stats equal : Stats) → by ≡ same →
-    alike ≡ ending → equal ≡ stats → IsSearchedBy task by limit ending stats → IsSearchedBy task same limit alike equal
+pub searched_so : (task : Task) (by same : Search) (limit : ℕ) (ending alike : Ending) (stats equal : Stats)
+    → by ≡ same →
+    alike ≡ ending → equal ≡ stats → IsSearchedBy task by limit ending stats
+    → IsSearchedBy task same limit alike equal
 searched_so task by same limit ending alike stats equal p q r h = record {
   of = h.of;
   ends = subst (λ (s : Search). IsEndingOf task (is_hopeless task) s limit h.of alike equal) p

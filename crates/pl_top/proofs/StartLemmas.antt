@@ -9,12 +9,14 @@ use Rattle.pl_check.specs.Stated.{AreStated}
 use Rattle.pl_print.specs.declared.fault.Fault.TheVariants as fault
 use Rattle.pl_top.specs.declared.refusal.Refusal.{Refusal}
 use Rattle.pl_top.specs.declared.refusal.Refusal.TheVariants as refused
-use Rattle.pl_top.specs.Answer.{Outcome, refusal, AreLinesOfAny, IsFaultOfAny, IsNoStep, IsStepOfText, IsWorked, IsListed}
+use Rattle.pl_top.specs.Answer.{Outcome, refusal, AreLinesOfAny, IsFaultOfAny, IsNoStep, IsStepOfText}
+use Rattle.pl_top.specs.Answer.{IsWorked, IsListed}
 use Rattle.pl_top.specs.Asked.{bytes_in}
 use Rattle.pl_top.specs.Refusal.{IsUnanswered}
 
 -- a text that is no step is the outcome
-pub no_step : (task : Task) (past : Option (Bor (List ℕ))) (text : Bor (List ℕ)) (bytes : List ℕ) → past ≡ Some text
+pub no_step : (task : Task) (past : Option (Bor (List ℕ))) (text : Bor (List ℕ)) (bytes : List ℕ)
+    → past ≡ Some text
     → bytes ≡ text.now → ((step : Instance) → IsStepText bytes task step → ⊥)
     → IsNoStep task (bytes_in past) (refusal 2 fault.NotAStep)
 no_step task past text bytes is same refused =
@@ -55,7 +57,8 @@ module _ (domain problem : List ℕ) (plan text : Option (List ℕ)) (count : Op
   pub step_refused : (lines : List PlanLine) (r : Refusal) → AreStated domain problem task
       → AreLinesOfAny plan task lines → IsUnanswered (IsNoStep task text) r
       → IsUnanswered (IsListed domain problem plan text count) r
-  step_refused lines r stated are = unanswered_weaker (IsNoStep task text) (IsListed domain problem plan text count) r
+  step_refused lines r stated are = unanswered_weaker (IsNoStep task text)
+      (IsListed domain problem plan text count) r
       (λ outcome h. inr (record {
         task = task;
         stated = stated;

@@ -1,11 +1,13 @@
 -- The files of `successors`, read one after the other.
-use Rattle.std.proofs.Common.{◌≡◌, ℕ, ◌≤◌, List, [], ◌∷◌, take, Option, Some, None, inl, inr, refl, subst, arith}
+use Rattle.std.proofs.Common.{◌≡◌, ℕ, ◌≤◌, List, [], ◌∷◌, take, Option, Some, None, inl, inr, refl, subst}
+use Rattle.std.proofs.Common.{arith}
 use Rattle.pl_io.specs.Outside.{NamedBytes, ShelfSeen, BegunThen}
 use Rattle.pl_check.specs.declared.role.FileRole.TheVariants.{Domain, Problem, Plan}
 use Rattle.pl_top.specs.declared.refusal.Refusal.{Refusal}
 use Rattle.pl_top.specs.declared.refusal.Refusal.TheVariants as refused
 use Rattle.pl_top.specs.Answer.{Outcome, Whole, IsReadingOf, IsAnswer, IsListed, IsPlanRead}
-use Rattle.pl_top.specs.Refusal.{HasBegun, IsRefused, IsUnread, IsUnanswered, IsPlanUnread, IsPlanWhole, names_after}
+use Rattle.pl_top.specs.Refusal.{HasBegun, IsRefused, IsUnread, IsUnanswered, IsPlanUnread, IsPlanWhole}
+use Rattle.pl_top.specs.Refusal.{names_after}
 use Rattle.pl_top.specs.Request.{Request, Successors, names_of}
 use Rattle.pl_top.proofs.FileLemmas.{begun_first, begun_next, begun_more, IsRead-weaker, unread}
 
@@ -36,12 +38,14 @@ module _ (domain problem : List ℕ) (after past : Option (List ℕ)) (count : O
   three_names (Some name) = refl
 
   pub after_plan : (shelf two three : ShelfSeen) → HasBegun asked 2 shelf two
-      → three.files ≡ two.files → two.faults ≤ three.faults → BegunThen two.begun (names_after after) three.begun
+      → three.files ≡ two.files → two.faults ≤ three.faults
+      → BegunThen two.begun (names_after after) three.begun
       → HasBegun asked 3 shelf three
   after_plan shelf two three = begun_more asked 2 3 (names_after after) shelf two three (three_names after)
 
   -- what is looked at further is looked at behind the plan file
-  plan_read : (files : Option (List NamedBytes)) (place : ℕ) (plan bytes : Option (List ℕ)) (outcome : Outcome)
+  plan_read : (files : Option (List NamedBytes)) (place : ℕ) (plan bytes : Option (List ℕ))
+      (outcome : Outcome)
       (Further : Option (List ℕ) → Type 0) → IsPlanWhole plan files bytes → Further bytes
       → IsPlanRead files place plan outcome Further
   plan_read files place None None outcome Further whole h = h
@@ -51,7 +55,8 @@ module _ (domain problem : List ℕ) (after past : Option (List ℕ)) (count : O
       record { reading = Whole bytes; of_file = whole.0 place; goes_on = h }
 
   -- the answer of files that are read whole
-  pub whole_files : (files : Option (List NamedBytes)) (place : ℕ) (d p : List ℕ) (l : Option (List ℕ)) (outcome : Outcome)
+  pub whole_files : (files : Option (List NamedBytes)) (place : ℕ) (d p : List ℕ) (l : Option (List ℕ))
+      (outcome : Outcome)
       → IsReadingOf files place domain (Whole d) → IsReadingOf files place problem (Whole p)
       → IsPlanWhole after files l → IsListed d p l past count outcome → IsAnswer asked files place outcome
   whole_files files place d p l outcome first second third listed = record {
@@ -60,7 +65,8 @@ module _ (domain problem : List ℕ) (after past : Option (List ℕ)) (count : O
     goes_on = record {
       reading = Whole p;
       of_file = second;
-      goes_on = plan_read files place after l outcome (λ bytes. IsListed d p bytes past count outcome) third listed;
+      goes_on = plan_read files place after l outcome (λ bytes. IsListed d p bytes past count outcome) third
+          listed;
     };
   }
 
@@ -82,7 +88,8 @@ module _ (domain problem : List ℕ) (after past : Option (List ℕ)) (count : O
       (λ outcome stops. record {
         reading = Whole d;
         of_file = first two.place;
-        goes_on = IsRead-weaker shelf.files two.place problem Problem outcome _ _ (λ bytes none. absurd none) stops;
+        goes_on = IsRead-weaker shelf.files two.place problem Problem outcome _ _
+            (λ bytes none. absurd none) stops;
       })
 
   -- files that are read whole have no list
@@ -109,17 +116,21 @@ module _ (domain problem : List ℕ) (after past : Option (List ℕ)) (count : O
       record { count = 3; begun = begun; cause = inr tt; last = tt }
 
 -- the plan file isn't read whole
-pub no_plan : (domain problem : List ℕ) (after past : Option (List ℕ)) (count : Option ℕ) (shelf two three : ShelfSeen)
+pub no_plan : (domain problem : List ℕ) (after past : Option (List ℕ)) (count : Option ℕ)
+    (shelf two three : ShelfSeen)
     (d p : List ℕ) (r : Refusal)
     → ((place : ℕ) → IsReadingOf shelf.files place domain (Whole d))
     → ((place : ℕ) → IsReadingOf shelf.files place problem (Whole p))
     → HasBegun (Successors domain problem (record { after = after; past = past; count = count })) 2 shelf two
-    → HasBegun (Successors domain problem (record { after = after; past = past; count = count })) 3 shelf three
+    → HasBegun (Successors domain problem (record { after = after; past = past; count = count })) 3 shelf
+    three
     → IsPlanUnread after two three r
-    → IsRefused (Successors domain problem (record { after = after; past = past; count = count })) shelf three r
+    → IsRefused (Successors domain problem (record { after = after; past = past; count = count })) shelf three
+    r
 no_plan domain problem None past count shelf two three d p r first second before begun h = absurd h
 no_plan domain problem (Some name) past count shelf two three d p r first second before begun h =
-    unread (Successors domain problem (record { after = Some name; past = past; count = count })) 3 name Plan shelf two three r
+    unread (Successors domain problem (record { after = Some name; past = past; count = count })) 3 name Plan
+    shelf two three r
     refl (Domain ∷ Problem ∷ [], refl) begun before.files before.faults
     (λ outcome stops. record {
       reading = Whole d;
@@ -127,7 +138,8 @@ no_plan domain problem (Some name) past count shelf two three d p r first second
       goes_on = record {
         reading = Whole p;
         of_file = second three.place;
-        goes_on = IsRead-weaker shelf.files three.place name Plan outcome _ _ (λ bytes none. absurd none) stops;
+        goes_on = IsRead-weaker shelf.files three.place name Plan outcome _ _
+            (λ bytes none. absurd none) stops;
       };
     })
     h

@@ -22,10 +22,12 @@ use Rattle.pl_top.proofs.FileLemmas.{begun_first, begun_next, IsRead-weaker, unr
 pub moved : (files others : Option (List NamedBytes)) (name bytes : List ℕ) → others ≡ files
     → ((place : ℕ) → IsReadingOf others place name (Whole bytes)) → (place : ℕ)
     → IsReadingOf files place name (Whole bytes)
-moved files others name bytes same whole place = subst (λ f. IsReadingOf f place name (Whole bytes)) same (whole place)
+moved files others name bytes same whole place = subst (λ f. IsReadingOf f place name (Whole bytes)) same
+    (whole place)
 
 -- a verdict on the lines of the plan is the outcome
-pub judged_verdict : (domain problem plan : List ℕ) (task : Task) (lines slice : List PlanLine) (verdict : Verdict)
+pub judged_verdict : (domain problem plan : List ℕ) (task : Task) (lines slice : List PlanLine)
+    (verdict : Verdict)
     → AreStated domain problem task → AreLines plan task lines → slice ≡ lines → IsVerdict task slice verdict
     → IsJudged domain problem plan (verdict_outcome verdict)
 judged_verdict domain problem plan task lines slice verdict stated are same is = inr (record {
@@ -41,7 +43,8 @@ judged_verdict domain problem plan task lines slice verdict stated are same is =
 })
 
 -- a fault of the plan is the outcome
-pub faulty_plan : (domain problem plan : List ℕ) (task : Task) (end : CheckEnd) (found : InputFault) (r : Refusal)
+pub faulty_plan : (domain problem plan : List ℕ) (task : Task) (end : CheckEnd) (found : InputFault)
+    (r : Refusal)
     → AreStated domain problem task → EndsPlanBy plan end → end ≡ check_end.Fault found
     → r ≡ input_refusal plan found
     → IsUnjudged domain problem plan r
@@ -86,7 +89,8 @@ module _ (domain problem plan : List ℕ) where
   pub no_domain : (shelf one : ShelfSeen) (r : Refusal) → HasBegun (Validate domain problem plan) 1 shelf one
       → IsUnread domain Domain shelf one r → IsRefused (Validate domain problem plan) shelf one r
   no_domain shelf one r begun =
-      unread (Validate domain problem plan) 1 domain Domain shelf shelf one r refl ([], refl) begun refl (omega arith)
+      unread (Validate domain problem plan) 1 domain Domain shelf shelf one r refl ([], refl) begun refl
+      (omega arith)
       (λ outcome. IsRead-weaker shelf.files one.place domain Domain outcome _ _ (λ bytes none. absurd none))
 
   -- the problem isn't read whole
@@ -101,7 +105,8 @@ module _ (domain problem plan : List ℕ) where
       (λ outcome stops. record {
         reading = Whole d;
         of_file = first two.place;
-        goes_on = IsRead-weaker shelf.files two.place problem Problem outcome _ _ (λ bytes none. absurd none) stops;
+        goes_on = IsRead-weaker shelf.files two.place problem Problem outcome _ _
+            (λ bytes none. absurd none) stops;
       })
 
   -- the plan isn't read whole
@@ -112,7 +117,8 @@ module _ (domain problem plan : List ℕ) where
       → HasBegun (Validate domain problem plan) 3 shelf three
       → IsUnread plan Plan two three r → IsRefused (Validate domain problem plan) shelf three r
   no_plan shelf two three d p r first second before begun =
-      unread (Validate domain problem plan) 3 plan Plan shelf two three r refl (Domain ∷ Problem ∷ [], refl) begun
+      unread (Validate domain problem plan) 3 plan Plan shelf two three r refl
+      (Domain ∷ Problem ∷ [], refl) begun
       before.files before.faults
       (λ outcome stops. record {
         reading = Whole d;
@@ -120,7 +126,8 @@ module _ (domain problem plan : List ℕ) where
         goes_on = record {
           reading = Whole p;
           of_file = second three.place;
-          goes_on = IsRead-weaker shelf.files three.place plan Plan outcome _ _ (λ bytes none. absurd none) stops;
+          goes_on = IsRead-weaker shelf.files three.place plan Plan outcome _ _
+              (λ bytes none. absurd none) stops;
         };
       })
 

@@ -1,5 +1,6 @@
 -- The verdict on a list of lines, as a function of the lines: it is one, and there is no other.
-use Rattle.std.proofs.Common.{◌≡◌, ℕ, ◌+◌, Bool, true, false, cond, List, [], ◌∷◌, ◌++◌, map, length, refl, sym, ◌∙◌, ap, arith, IsTrue, ◌↔◌}
+use Rattle.std.proofs.Common.{◌≡◌, ℕ, ◌+◌, Bool, true, false, cond, List, [], ◌∷◌, ◌++◌, map, length, refl}
+use Rattle.std.proofs.Common.{sym, ◌∙◌, ap, arith, IsTrue, ◌↔◌}
 use Rattle.std.proofs.lemmas.Bool.{not-true}
 use Rattle.std.proofs.lemmas.List.{append-nil, append_assoc, length-append, length-map, map-append}
 use Rattle.pl_task.specs.declared.plan.PlanLine.{PlanLine}
@@ -51,7 +52,8 @@ stopped : (task : Task) (s : State) (done : ℕ) (at : PlanLine) (rest : List Pl
     IsRefused task s at why → verdict_from task s done (at ∷ rest) ≡ verdict.Invalid (done + 1) why
 stopped task s done (line.Step step) rest why refused =
     let not_applicable : is_applicable task s step ≡ false =
-    decided_false (is_applicable task s step) (IsApplicable task s step) (is_applicable-decides task s step) refused.1
+    decided_false (is_applicable task s step) (IsApplicable task s step)
+    (is_applicable-decides task s step) refused.1
     in
     rw not_applicable (ap (verdict.Invalid (done + 1)) (sym refused.0))
 stopped task s done line.UnknownAction rest why refused = ap (verdict.Invalid (done + 1)) (sym refused)
@@ -59,7 +61,8 @@ stopped task s done line.Arguments rest why refused = ap (verdict.Invalid (done 
 stopped task s done line.UnknownObject rest why refused = ap (verdict.Invalid (done + 1)) (sym refused)
 
 -- all lines are steps that are executed
-ended : (task : Task) (lines : List PlanLine) (steps : List Instance) (last : State) → lines ≡ map line.Step steps →
+ended : (task : Task) (lines : List PlanLine) (steps : List Instance) (last : State)
+    → lines ≡ map line.Step steps →
     Executes task (initial task) steps last →
     verdict_from task (initial task) 0 lines ≡ verdict_from task last (length steps) []
 ended task lines steps last are executed =
@@ -73,7 +76,8 @@ verdict_only task lines (verdict.Valid n) (count, (steps, are, (last, executed, 
     ended task lines steps last are executed ∙ (rw met (ap verdict.Valid many))
 verdict_only task lines (verdict.Invalid number why) h =
     ap (verdict_from task (initial task) 0) h.lines_are ∙
-    passed task (initial task) h.state 0 (length h.before) h.before (h.at ∷ h.after) h.executed (omega arith) ∙
+    passed task (initial task) h.state 0 (length h.before) h.before (h.at ∷ h.after) h.executed
+    (omega arith) ∙
     stopped task h.state (length h.before) h.at h.after why h.refused ∙
     ap (λ n. verdict.Invalid n why) (sym h.counted)
 verdict_only task lines verdict.GoalMissed h =
@@ -84,8 +88,10 @@ verdict_only task lines verdict.GoalMissed h =
 
 module _ (task : Task) (lines : List PlanLine) where
   -- a line that is refused after steps that are executed
-  refused_here : (done : List Instance) (s : State) (at : PlanLine) (rest : List PlanLine) (number : ℕ) (why : Reason) →
-      Executes task (initial task) done s → lines ≡ map line.Step done ++ at ∷ rest → number ≡ length done + 1 →
+  refused_here : (done : List Instance) (s : State) (at : PlanLine) (rest : List PlanLine) (number : ℕ)
+      (why : Reason) →
+      Executes task (initial task) done s → lines ≡ map line.Step done ++ at ∷ rest
+      → number ≡ length done + 1 →
       IsRefused task s at why → IsFirstRefused task lines number why
   refused_here done s at rest number why executed are counted refused = record {
     before = done;
@@ -107,7 +113,8 @@ module _ (task : Task) (lines : List PlanLine) where
   all_done done s count executed are counted false is =
       record { steps = done; state = s; lines_are = are; executed = executed; missed = rw is refl }
 
-  -- the verdict on the lines that are left is that on all, where those before them are steps that are executed
+  -- the verdict on the lines that are left is that on all, where those before them are steps that are
+  -- executed
   pub verdict_holds : (rest : List PlanLine) (done : List Instance) (s : State) (count : ℕ) →
       Executes task (initial task) done s → lines ≡ map line.Step done ++ rest → count ≡ length done →
       IsVerdict task lines (verdict_from task s count rest)
@@ -130,13 +137,17 @@ module _ (task : Task) (lines : List PlanLine) where
       by_test true is further = further is
       by_test false is further =
           refused_here done s (line.Step step) rest (count + 1) reason.Inapplicable executed are
-          (omega (arith, counted))
-          (refl, λ applicable. (let yes_it_is = sym is ∙ (is_applicable-decides task s step).1 applicable in cc))
+          (omega (arith, counted)) (
+            refl,
+            λ applicable.
+                (let yes_it_is = sym is ∙ (is_applicable-decides task s step).1 applicable in cc),
+          )
   verdict_holds (line.UnknownAction ∷ rest) done s count executed are counted =
       refused_here done s line.UnknownAction rest (count + 1) reason.UnknownAction executed are
       (omega (arith, counted)) refl
   verdict_holds (line.Arguments ∷ rest) done s count executed are counted =
-      refused_here done s line.Arguments rest (count + 1) reason.Arguments executed are (omega (arith, counted)) refl
+      refused_here done s line.Arguments rest (count + 1) reason.Arguments executed are
+      (omega (arith, counted)) refl
   verdict_holds (line.UnknownObject ∷ rest) done s count executed are counted =
       refused_here done s line.UnknownObject rest (count + 1) reason.UnknownObject executed are
       (omega (arith, counted)) refl

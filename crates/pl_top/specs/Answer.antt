@@ -1,5 +1,6 @@
 -- What the answer to a request is: a relation between the files and the outcome.
-use Rattle.std.specs.Prelude.{◌≡◌, ℕ, ◌+◌, ◌≤◌, cond, nat_le, ◌⊎◌, List, [], length, map, Option, Some, None, ⊤}
+use Rattle.std.specs.Prelude.{◌≡◌, ℕ, ◌+◌, ◌≤◌, cond, nat_le, ◌⊎◌, List, [], length, map, Option, Some, None}
+use Rattle.std.specs.Prelude.{⊤}
 use Rattle.pl_io.specs.Outside.{NamedBytes, content_of, most_file_bytes}
 use Rattle.pl_text.specs.Lines.{line_of, column_of}
 use Rattle.pl_task.specs.declared.plan.PlanLine.{PlanLine}
@@ -49,7 +50,8 @@ too_long role = refusal 3 (fault.TooLong role)
 
 -- the first fault of a file with these bytes, shown by its line and its column
 abbrev pub shown_fault : List ℕ → InputFault → Fault
-shown_fault bytes found = fault.Input found.file (line_of bytes found.at) (column_of bytes found.at) found.kind
+shown_fault bytes found = fault.Input found.file (line_of bytes found.at)
+    (column_of bytes found.at) found.kind
 
 abbrev pub faulty : List ℕ → InputFault → Outcome
 faulty bytes found = refusal 3 (shown_fault bytes found)
@@ -74,9 +76,10 @@ abbrev pub reading_of : Option (List ℕ) → Reading
 reading_of None = Absent
 reading_of (Some bytes) = cond (nat_le (length bytes) most_file_bytes) (Whole bytes) Overlong
 
--- Told files decide the reading of a name. Of untold ones it is known that none is absent, that one of which the shelf
--- gave a byte past the limit is overlong, and that one that is read whole is within the limit. `place` is how many bytes
--- the shelf has given of the file that was read last, which is the overlong one where there is one.
+-- Told files decide the reading of a name. Of untold ones it is known that none is absent, that one of which
+-- the shelf gave a byte past the limit is overlong, and that one that is read whole is within the limit.
+-- `place` is how many bytes the shelf has given of the file that was read last, which is the overlong one
+-- where there is one.
 abbrev pub IsReadingOf : Option (List NamedBytes) → ℕ → List ℕ → Reading → Type 0
 IsReadingOf (Some files) place name reading = reading ≡ reading_of (content_of files name)
 IsReadingOf None place name Absent = ⊥
@@ -90,7 +93,8 @@ GoesOn role outcome Further Overlong = outcome ≡ too_long role
 GoesOn role outcome Further (Whole bytes) = Further bytes
 
 -- the file of that name is read, and then what it says is looked at
-pub record IsRead (files : Option (List NamedBytes)) (place : ℕ) (name : List ℕ) (role : FileRole) (outcome : Outcome)
+pub record IsRead (files : Option (List NamedBytes)) (place : ℕ) (name : List ℕ) (role : FileRole)
+    (outcome : Outcome)
     (Further : List ℕ → Type 0) : Type 0 where
   pub reading : Reading
   pub of_file : IsReadingOf files place name reading
@@ -130,7 +134,8 @@ pub record IsPlanJudged (domain problem plan : List ℕ) (outcome : Outcome) : T
 
 -- the outcome for the bytes of a domain, a problem and a plan
 abbrev pub IsJudged : List ℕ → List ℕ → List ℕ → Outcome → Type 0
-IsJudged domain problem plan outcome = IsInputFault domain problem outcome ⊎ IsPlanJudged domain problem plan outcome
+IsJudged domain problem plan outcome = IsInputFault domain problem outcome
+    ⊎ IsPlanJudged domain problem plan outcome
 
 -- the plan file, where one is given, has a first fault, which is the outcome
 abbrev pub IsFaultOfAny : Option (List ℕ) → Outcome → Type 0
@@ -145,7 +150,8 @@ AreLinesOfAny (Some plan) task lines = AreLines plan task lines
 -- a text is given that is no step of the task, which is the outcome
 abbrev pub IsNoStep : Task → Option (List ℕ) → Outcome → Type 0
 IsNoStep task None outcome = ⊥
-IsNoStep task (Some text) outcome = ((step : Instance) → IsStepText text task step → ⊥) × (outcome ≡ refusal 2 fault.NotAStep)
+IsNoStep task (Some text) outcome = ((step : Instance) → IsStepText text task step → ⊥)
+    × (outcome ≡ refusal 2 fault.NotAStep)
 
 -- the text is this step of the task, or neither is given
 abbrev pub IsStepOfText : Task → Option (List ℕ) → Option Instance → Type 0
@@ -165,8 +171,10 @@ pub record IsInvalidPlan (task : Task) (lines : List PlanLine) (outcome : Outcom
 abbrev pub list_outcome : Task → State → Option Instance → Option ℕ → Outcome
 list_outcome task s past count = record { status = 0; text = successors_text task s past count; line = [] }
 
--- the lines are steps that are executed from the initial state, and the list for the state that they lead to is the outcome
-pub record IsListAfter (task : Task) (lines : List PlanLine) (past : Option Instance) (count : Option ℕ) (outcome : Outcome) : Type 0 where
+-- the lines are steps that are executed from the initial state, and the list for the state that they lead to
+-- is the outcome
+pub record IsListAfter (task : Task) (lines : List PlanLine) (past : Option Instance) (count : Option ℕ)
+    (outcome : Outcome) : Type 0 where
   pub steps : List Instance
   pub state : State
   pub lines_are : lines ≡ map line.Step steps
@@ -175,27 +183,32 @@ pub record IsListAfter (task : Task) (lines : List PlanLine) (past : Option Inst
 
 -- the outcome of the lines of a plan, of a step past which steps are listed, and of their number
 abbrev pub IsWorked : Task → List PlanLine → Option Instance → Option ℕ → Outcome → Type 0
-IsWorked task lines past count outcome = IsInvalidPlan task lines outcome ⊎ IsListAfter task lines past count outcome
+IsWorked task lines past count outcome = IsInvalidPlan task lines outcome
+    ⊎ IsListAfter task lines past count outcome
 
 -- the text is a step, with which the outcome comes
-pub record IsPastStep (task : Task) (lines : List PlanLine) (text : Option (List ℕ)) (count : Option ℕ) (outcome : Outcome) : Type 0 where
+pub record IsPastStep (task : Task) (lines : List PlanLine) (text : Option (List ℕ)) (count : Option ℕ)
+    (outcome : Outcome) : Type 0 where
   pub past : Option Instance
   pub is : IsStepOfText task text past
   pub worked : IsWorked task lines past count outcome
 
 -- the plan file has lines, with which the outcome comes: first it is seen whether the text is a step
-pub record IsListOfLines (task : Task) (plan : Option (List ℕ)) (text : Option (List ℕ)) (count : Option ℕ) (outcome : Outcome) : Type 0 where
+pub record IsListOfLines (task : Task) (plan : Option (List ℕ)) (text : Option (List ℕ)) (count : Option ℕ)
+    (outcome : Outcome) : Type 0 where
   pub lines : List PlanLine
   pub are : AreLinesOfAny plan task lines
   pub comes : IsNoStep task text outcome ⊎ IsPastStep task lines text count outcome
 
 -- domain and problem state a task, whose steps are listed
-pub record IsTaskListed (domain problem : List ℕ) (plan text : Option (List ℕ)) (count : Option ℕ) (outcome : Outcome) : Type 0 where
+pub record IsTaskListed (domain problem : List ℕ) (plan text : Option (List ℕ)) (count : Option ℕ)
+    (outcome : Outcome) : Type 0 where
   pub task : Task
   pub stated : AreStated domain problem task
   pub listed : IsFaultOfAny plan outcome ⊎ IsListOfLines task plan text count outcome
 
--- the outcome for the bytes of a domain, a problem and maybe a plan, for the text of a step, and for a number of steps
+-- the outcome for the bytes of a domain, a problem and maybe a plan, for the text of a step, and for a number
+-- of steps
 abbrev pub IsListed : List ℕ → List ℕ → Option (List ℕ) → Option (List ℕ) → Option ℕ → Outcome → Type 0
 IsListed domain problem plan text count outcome =
     IsInputFault domain problem outcome ⊎ IsTaskListed domain problem plan text count outcome
@@ -241,7 +254,8 @@ IsMadeEnd task Unsolvable stats outcome = outcome ≡ search_outcome task no_pla
 IsMadeEnd task Exhausted stats outcome = outcome ≡ search_outcome task no_plan_options Exhausted stats
 IsMadeEnd task Limit stats outcome = outcome ≡ search_outcome task no_plan_options Limit stats
 
--- how the search of a made task ends, by the search and the limit of `plan` without options, decides the outcome
+-- how the search of a made task ends, by the search and the limit of `plan` without options, decides the
+-- outcome
 pub record IsMadeOutcome (task : Task) (outcome : Outcome) : Type 0 where
   pub ending : Ending
   pub stats : Stats
@@ -263,12 +277,14 @@ abbrev pub IsMade : Kind → ℕ → ℕ → Outcome → Type 0
 IsMade kind n start outcome = IsMadeOf (domain_text kind) (problem_text kind n start) outcome
 
 -- the plan file is read where one is named, and then what it says is looked at
-abbrev pub IsPlanRead : Option (List NamedBytes) → ℕ → Option (List ℕ) → Outcome → (Option (List ℕ) → Type 0) → Type 0
+abbrev pub IsPlanRead : Option (List NamedBytes) → ℕ → Option (List ℕ) → Outcome → (Option (List ℕ) → Type 0)
+    → Type 0
 IsPlanRead files place None outcome Further = Further None
-IsPlanRead files place (Some name) outcome Further = IsRead files place name Plan outcome (λ bytes. Further (Some bytes))
+IsPlanRead files place (Some name) outcome Further = IsRead files place name Plan outcome
+    (λ bytes. Further (Some bytes))
 
--- the answer to a request: its files are read in this order, and the first that isn't read whole decides; a task that is
--- made needs no file
+-- the answer to a request: its files are read in this order, and the first that isn't read whole decides; a
+-- task that is made needs no file
 abbrev pub IsAnswer : Request → Option (List NamedBytes) → ℕ → Outcome → Type 0
 IsAnswer (Validate domain problem plan) files place outcome =
     IsRead files place domain Domain outcome (λ d.

@@ -43,7 +43,8 @@ plan_options_named options = record {
 
 abbrev pub named : Asked → words.Request
 named (asked.Validate domain problem plan) = words.Validate domain.now problem.now plan.now
-named (asked.Successors domain problem options) = words.Successors domain.now problem.now (options_named options)
+named (asked.Successors domain problem options) = words.Successors domain.now problem.now
+    (options_named options)
 named (asked.Make kind n start) = words.Make kind n start
 named (asked.Plan domain problem options) =
     words.FindPlan domain.now problem.now (plan_options_named options)

@@ -1,8 +1,10 @@
 -- The text of `successors`: the applicable steps of a state, from a place on and up to a number of them.
-use Rattle.std.specs.Prelude.{ℕ, List, [], ◌∷◌, ◌++◌, take, drop, filter, flat_map, Option, Some, None, codes}
+use Rattle.std.specs.Prelude.{ℕ, ◌+◌, ◌*◌, List, [], ◌∷◌, ◌++◌, length, take, drop, filter, flat_map, Option}
+use Rattle.std.specs.Prelude.{Some, None, codes}
 use Rattle.pl_task.specs.declared.task.Task.{Task}
 use Rattle.pl_task.specs.Instance.{Instance}
 use Rattle.pl_task.specs.States.{State}
+use Rattle.pl_normal.specs.Measures.{base_bound, largest_size}
 use Rattle.pl_normal.specs.Steps.{applicable_steps}
 use Rattle.pl_gen.specs.Walks.{is_above}
 use Rattle.pl_print.specs.Texts.{step_text}
@@ -29,3 +31,19 @@ list_text task (Some count) steps = step_lines task (take count steps) ++ end_te
 -- the applicable steps of a state past a step, up to a number of them
 abbrev pub successors_text : Task → State → Option Instance → Option ℕ → List ℕ
 successors_text task s past count = list_text task count (listed_steps task s past)
+
+-- the first steps, up to a number of them where one is given: those whose lines `list_text` has
+abbrev pub first_steps : Option ℕ → List Instance → List Instance
+first_steps None steps = steps
+first_steps (Some count) steps = take count steps
+
+-- how many steps `successors_text` has a line of
+abbrev pub printed_steps : Task → State → Option Instance → Option ℕ → ℕ
+printed_steps task s past count = length (first_steps count (listed_steps task s past))
+
+-- what writing that text may probe where all schemas are acyclic and all filters local: the preparation of
+-- the state, and two probes for each literal and parameter of the largest schema, for each printed step and
+-- one more
+abbrev pub page_bound : Task → State → Option Instance → Option ℕ → ℕ
+page_bound task s past count =
+    base_bound task s + 2 * largest_size task * (printed_steps task s past count + 1)

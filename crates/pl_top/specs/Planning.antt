@@ -20,8 +20,8 @@ use Rattle.pl_top.specs.Run.{ArePlannable, AreSound, IsWidthSearch}
 use Rattle.pl_top.specs.Searching.{limit_of, search_of, search_text}
 use Rattle.pl_top.specs.Summary.{summary_text}
 
--- A plan of the task was printed. By breadth-first search it is the least of all plans: none is shorter, and each other plan
--- of as many steps comes after it.
+-- A plan of the task was printed. By breadth-first search it is the least of all plans: none is shorter, and
+-- each other plan of as many steps comes after it.
 pub record IsPlanPut (task : Task) (options : PlanOptions) (out out' : SinkSeen) : Type 0 where
   pub plan : List Instance
   pub stats : Stats
@@ -51,7 +51,8 @@ pub record IsTruthful (task : Task) (options : PlanOptions) (out out' : SinkSeen
   pub limit : result ≡ 6 → IsLimitPut task options out out'
 
 -- the files were read whole and state a task, of which the run says the truth
-pub record SaysOfTask (domain problem : List ℕ) (options : PlanOptions) (shelf shelf' : ShelfSeen) (out out' : SinkSeen)
+pub record SaysOfTask (domain problem : List ℕ) (options : PlanOptions) (shelf shelf' : ShelfSeen)
+    (out out' : SinkSeen)
     (result : ℕ) : Type 0 where
   pub domain_bytes : List ℕ
   pub problem_bytes : List ℕ
@@ -91,7 +92,8 @@ IfSays (Validate domain problem plan) shelf shelf' out out' result = ⊤
 IfSays (Successors domain problem options) shelf shelf' out out' result = ⊤
 IfSays (FindPlan domain problem options) shelf shelf' out out' result =
     IsOfTask result → SaysOfTask domain problem options shelf shelf' out out' result
-IfSays (Make kind n start) shelf shelf' out out' result = IsOfTask result → SaysOfMade kind n start out out' result
+IfSays (Make kind n start) shelf shelf' out out' result = IsOfTask result
+    → SaysOfMade kind n start out out' result
 
 -- at most so many states are reachable
 abbrev pub AreReachableWithin : Task → ℕ → Type 0
@@ -99,7 +101,8 @@ AreReachableWithin task limit =
     (states : List State) → AllPairs (λ (s t : State). s ≢ t) states → All (IsReachable task) states →
     length states ≤ limit
 
--- a plan is printed where one exists, and `unsolvable` otherwise; a width search, and no other, may be exhausted too
+-- a plan is printed where one exists, and `unsolvable` otherwise; a width search, and no other, may be
+-- exhausted too
 abbrev pub IsSettled : Task → PlanOptions → SinkSeen → SinkSeen → ℕ → Type 0
 IsSettled task options out out' result =
     ((result ≡ 0) × IsPlanPut task options out out') ⊎ ((result ≡ 1) × IsNoPlanPut task options out out')
@@ -110,9 +113,9 @@ abbrev pub IsMadeSettled : Task → SinkSeen → SinkSeen → ℕ → Type 0
 IsMadeSettled task out out' result =
     ((result ≡ 0) × IsSummaryPut task out out') ⊎ ((result ≡ 1) × IsNoPlanPut task no_plan_options out out')
 
--- Where the files are told and without a fault, neither the shelf nor `out` failed, and the task that they state has
--- at most as many reachable states as the limit, a run of `plan` settles whether a plan exists, or runs out of memory;
--- a run by width may be exhausted too. A run of `make` settles it over any shelf.
+-- Where the files are told and without a fault, neither the shelf nor `out` failed, and the task that they
+-- state has at most as many reachable states as the limit, a run of `plan` settles whether a plan exists, or
+-- runs out of memory; a run by width may be exhausted too. A run of `make` settles it over any shelf.
 abbrev pub IsDecisive : Request → ShelfSeen → ShelfSeen → SinkSeen → SinkSeen → ℕ → Type 0
 IsDecisive (Validate domain problem plan) shelf shelf' out out' result = ⊤
 IsDecisive (Successors domain problem options) shelf shelf' out out' result = ⊤

@@ -47,4 +47,5 @@ IsRefusalOf task lines (Some verdict) = IsRefusedBy task lines verdict
 -- what the lines lead to: a verdict that refuses one, or a state
 abbrev pub IsReached : Task → List PlanLine → Destination → Type 0
 IsReached task lines (destination.Refused verdict) = IsRefusedBy task lines verdict
-IsReached task lines (destination.State words) = IsStateOf task words × AreExecuted task lines (state_in task words)
+IsReached task lines (destination.State words) = IsStateOf task words
+    × AreExecuted task lines (state_in task words)

@@ -37,7 +37,8 @@ outcome_of why = refusal (status_of why) (fault_of why)
 abbrev pub IsUnread : List ℕ → FileRole → ShelfSeen → ShelfSeen → Refusal → Type 0
 IsUnread name role shelf shelf' (CannotRead r) =
     (r ≡ role) × (IsReadingOf shelf.files shelf'.place name Absent
-    ⊎ (Rose shelf.faults shelf'.faults × ((shelf'.current ≡ None) ⊎ IsAtHand shelf.files name shelf'.current)))
+    ⊎ (Rose shelf.faults shelf'.faults
+    × ((shelf'.current ≡ None) ⊎ IsAtHand shelf.files name shelf'.current)))
 IsUnread name role shelf shelf' (TooLong r) = (r ≡ role) × IsReadingOf shelf.files shelf'.place name Overlong
 IsUnread name role shelf shelf' (Input file line column kind) = ⊥
 IsUnread name role shelf shelf' NotAStep = ⊥
@@ -69,7 +70,8 @@ IsOfLast roles (Memory error) = ⊤
 pub record IsRefused (request : Request) (shelf shelf' : ShelfSeen) (refused : Refusal) : Type 0 where
   pub count : ℕ
   pub begun : HasBegun request count shelf shelf'
-  pub cause : IsAnswer request shelf.files shelf'.place (outcome_of refused) ⊎ IsForced request shelf shelf' refused
+  pub cause : IsAnswer request shelf.files shelf'.place (outcome_of refused)
+      ⊎ IsForced request shelf shelf' refused
   pub last : IsOfLast (take count (roles_of request)) refused
 
 -- why files that were read whole have no answer to print: the refusal is their outcome, or memory ran out
@@ -99,7 +101,8 @@ abbrev pub IsPlanWhole : Option (List ℕ) → Option (List NamedBytes) → Opti
 IsPlanWhole None files None = ⊤
 IsPlanWhole None files (Some bytes) = ⊥
 IsPlanWhole (Some name) files None = ⊥
-IsPlanWhole (Some name) files (Some bytes) = ((place : ℕ) → IsReadingOf files place name (Whole bytes)) × (length bytes ≤ most_file_bytes)
+IsPlanWhole (Some name) files (Some bytes) = ((place : ℕ) → IsReadingOf files place name (Whole bytes))
+    × (length bytes ≤ most_file_bytes)
 
 -- the refusal for a fault of a file with these bytes
 abbrev pub input_refusal : List ℕ → InputFault → Refusal

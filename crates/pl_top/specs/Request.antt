@@ -1,5 +1,6 @@
 -- What a list of words asks for.
-use Rattle.std.specs.Prelude.{ℕ, Bool, true, false, not, ◌&&◌, cond, List, [], ◌∷◌, map, Option, Some, None, is_some, codes, bytes_eq, nat_eq, nat_le, decimal}
+use Rattle.std.specs.Prelude.{ℕ, Bool, true, false, not, ◌&&◌, cond, List, [], ◌∷◌, map, Option, Some, None}
+use Rattle.std.specs.Prelude.{is_some, codes, bytes_eq, nat_eq, nat_le, decimal}
 use Rattle.std.specs.List.{starts_with}
 use Rattle.std.specs.Option.{option_map}
 use Rattle.std.specs.Str.Parse.{digits_value}
@@ -18,7 +19,8 @@ pub record Options : Type 0 where
   pub past : Option (List ℕ)
   pub count : Option ℕ
 
--- the options of `plan`: by which search, with how many states at most, and whether what it counted is printed
+-- the options of `plan`: by which search, with how many states at most, and whether what it counted is
+-- printed
 pub record PlanOptions : Type 0 where
   pub search : Option Search
   pub limit : Option ℕ
@@ -117,7 +119,8 @@ with_value options name value =
     cond (bytes_eq name (codes "--search")) (with_search options value)
     (cond (bytes_eq name (codes "--limit")) (with_limit options value) None)
 
--- the options with those that the words are: `--stats` is one word, and any other option is a name and a value
+-- the options with those that the words are: `--stats` is one word, and any other option is a name and a
+-- value
 abbrev pub with_each : List (List ℕ) → Option PlanOptions → Option PlanOptions
 with_each words None = None
 with_each [] (Some options) = Some options
@@ -129,7 +132,8 @@ with_each (name ∷ value ∷ words) (Some options) =
 -- the request of the words after `validate`
 abbrev pub validate_of : List (List ℕ) → Option Request
 validate_of (domain ∷ problem ∷ plan ∷ []) =
-    cond (is_file_name domain && is_file_name problem && is_file_name plan) (Some (Validate domain problem plan)) None
+    cond (is_file_name domain && is_file_name problem && is_file_name plan)
+    (Some (Validate domain problem plan)) None
 validate_of words = None
 
 -- the request of the words after `successors`
@@ -148,7 +152,8 @@ plan_of words = None
 
 -- the kind of made tasks that a word names
 abbrev pub kind_of : List ℕ → Option Kind
-kind_of word = cond (bytes_eq word (codes "hop")) (Some Hop) (cond (bytes_eq word (codes "wide")) (Some Wide) None)
+kind_of word = cond (bytes_eq word (codes "hop")) (Some Hop)
+    (cond (bytes_eq word (codes "wide")) (Some Wide) None)
 
 -- whether a task of the kind is made in this size
 abbrev pub is_size : Kind → ℕ → Bool
@@ -199,7 +204,8 @@ plan_files (Some plan) = (Plan, plan) ∷ []
 -- the files of a request, each with its role, in the order in which they are read
 abbrev pub files_of : Request → List (FileRole × List ℕ)
 files_of (Validate domain problem plan) = (Domain, domain) ∷ (Problem, problem) ∷ (Plan, plan) ∷ []
-files_of (Successors domain problem options) = (Domain, domain) ∷ (Problem, problem) ∷ plan_files options.after
+files_of (Successors domain problem options) = (Domain, domain) ∷ (Problem, problem) ∷ plan_files
+    options.after
 files_of (FindPlan domain problem options) = (Domain, domain) ∷ (Problem, problem) ∷ []
 files_of (Make kind n start) = []
 

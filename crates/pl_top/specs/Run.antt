@@ -1,7 +1,8 @@
 -- What a run says and leaves: the contract of the top call.
 use Rattle.std.specs.Prelude.{◌≡◌, ◌≢◌, ℕ, ◌≤◌, ◌⊎◌, List, [], ◌∷◌, ◌++◌, take, length, Some, ⊤, IfSome}
 use Rattle.std.specs.Io.KnownBytes.{Appends}
-use Rattle.pl_io.specs.Outside.{NamedBytes, ShelfSeen, SinkSeen, content_of, most_file_bytes, AppendsFront, BegunThen, Rose}
+use Rattle.pl_io.specs.Outside.{NamedBytes, ShelfSeen, SinkSeen, content_of, most_file_bytes, AppendsFront}
+use Rattle.pl_io.specs.Outside.{BegunThen, Rose}
 use Rattle.pl_check.specs.FirstFault.{IsFirstFault}
 use Rattle.pl_check.specs.PlanLines.{IsPlanFault, IsStepText}
 use Rattle.pl_check.specs.Stated.{AreStated}
@@ -16,10 +17,12 @@ use Rattle.pl_registry.specs.declared.search.Search.{Search}
 use Rattle.pl_registry.specs.declared.search.Search.TheVariants as search
 use Rattle.pl_make.specs.declared.kind.Kind.{Kind}
 use Rattle.pl_make.specs.Texts.{domain_text, problem_text}
-use Rattle.pl_top.specs.Request.{Request, Options, Validate, Successors, FindPlan, Make, name_of, names_of, roles_of}
+use Rattle.pl_top.specs.Request.{Request, Options, Validate, Successors, FindPlan, Make, name_of, names_of}
+use Rattle.pl_top.specs.Request.{roles_of}
 use Rattle.pl_top.specs.Searching.{search_of}
 
--- how a run ends: with its answer, stopped as it read a file, stopped as it wrote its answer, or out of memory
+-- how a run ends: with its answer, stopped as it read a file, stopped as it wrote its answer, or out of
+-- memory
 pub data Ending : Type 0 where
   Answered : Outcome → Ending
   StoppedReading : FileRole → Ending
@@ -32,10 +35,12 @@ pub record IsTied (request : Request) (role : FileRole) (shelf : ShelfSeen) : Ty
   pub named : name_of request role ≡ Some name
   pub at_hand : IfSome shelf.files (λ _. IfSome shelf.current (λ current. current ≡ name))
 
--- why each ending comes: an answer is the request's answer, each stop has its counted fault, and memory may always run out
+-- why each ending comes: an answer is the request's answer, each stop has its counted fault, and memory may
+-- always run out
 abbrev pub IsCause : Request → ShelfSeen → ShelfSeen → SinkSeen → SinkSeen → Ending → Type 0
 IsCause request shelf shelf' out out' (Answered outcome) = IsAnswer request shelf.files shelf'.place outcome
-IsCause request shelf shelf' out out' (StoppedReading role) = Rose shelf.faults shelf'.faults × IsTied request role shelf'
+IsCause request shelf shelf' out out' (StoppedReading role) = Rose shelf.faults shelf'.faults
+    × IsTied request role shelf'
 IsCause request shelf shelf' out out' (StoppedWriting outcome) =
     IsAnswer request shelf.files shelf'.place outcome × Rose out.faults out'.faults × (outcome.text ≢ [])
 IsCause request shelf shelf' out out' OutOfMemory = ⊤
@@ -76,16 +81,18 @@ pub record IsLinePut (line : List ℕ) (old new : SinkSeen) : Type 0 where
 abbrev pub EndsWith : List FileRole → FileRole → Type 0
 EndsWith roles role = (before : List FileRole) × (roles ≡ before ++ role ∷ [])
 
--- The first `count` files of the request were begun, each once, and no other name. Where the status is 4, the line names
--- the file that was begun last.
+-- The first `count` files of the request were begun, each once, and no other name. Where the status is 4, the
+-- line names the file that was begun last.
 pub record AreBegun (request : Request) (shelf shelf' : ShelfSeen) (ending : Ending) : Type 0 where
   pub count : ℕ
   pub names : BegunThen shelf.begun (take count (names_of request)) shelf'.begun
   pub last : status_of ending ≡ 4
-      → (role : FileRole) × (line_of ending ≡ fault_text (fault.Read role)) × EndsWith (take count (roles_of request)) role
+      → (role : FileRole) × (line_of ending ≡ fault_text (fault.Read role))
+      × EndsWith (take count (roles_of request)) role
 
 -- a run of a request, from what shelf and sinks told before it to what they tell after it
-pub record RunEnds (request : Request) (shelf shelf' : ShelfSeen) (out out' err err' : SinkSeen) (result : ℕ) : Type 0 where
+pub record RunEnds (request : Request) (shelf shelf' : ShelfSeen) (out out' err err' : SinkSeen)
+    (result : ℕ) : Type 0 where
   pub ending : Ending
   pub cause : IsCause request shelf shelf' out out' ending
   pub status : result ≡ status_of ending
@@ -125,9 +132,11 @@ pub record IsFaultlessPlan (files : List NamedBytes) (name : List ℕ) : Type 0 
 
 -- the text is a step of the task that domain and problem state
 abbrev pub IsStepOfStated : List ℕ → List ℕ → List ℕ → Type 0
-IsStepOfStated domain problem text = (task : Task) → AreStated domain problem task → (step : Instance) × IsStepText text task step
+IsStepOfStated domain problem text = (task : Task) → AreStated domain problem task → (step : Instance)
+    × IsStepText text task step
 
--- told files that are all there, are short enough, and have no fault, and a step of their task where a text is given
+-- told files that are all there, are short enough, and have no fault, and a step of their task where a text
+-- is given
 pub record AreListable (files : List NamedBytes) (domain problem : List ℕ) (options : Options) : Type 0 where
   pub domain_bytes : List ℕ
   pub problem_bytes : List ℕ
@@ -151,7 +160,8 @@ pub record ArePlannable (files : List NamedBytes) (domain problem : List ℕ) : 
 
 -- the texts of a made task have no fault
 abbrev pub AreSound : Kind → ℕ → ℕ → Type 0
-AreSound kind n start = (found : InputFault) → IsFirstFault (domain_text kind) (problem_text kind n start) found → ⊥
+AreSound kind n start = (found : InputFault) → IsFirstFault (domain_text kind)
+    (problem_text kind n start) found → ⊥
 
 -- the shelf tells these files; where nothing is read of it, it need not tell any
 abbrev pub AreTold : Request → ShelfSeen → List NamedBytes → Type 0
@@ -182,8 +192,8 @@ IsStatusOf (FindPlan domain problem options) status =
     (status ≡ 0) ⊎ (status ≡ 1) ⊎ (status ≡ 6) ⊎ (IsWidthSearch (search_of options) × (status ≡ 7))
 IsStatusOf (Make kind n start) status = (status ≡ 0) ⊎ (status ≡ 1) ⊎ (status ≡ 6)
 
--- Where the files are told and without a fault, and neither the shelf nor `out` failed, a run has its answer or runs out of
--- memory. A made task needs no file.
+-- Where the files are told and without a fault, and neither the shelf nor `out` failed, a run has its answer
+-- or runs out of memory. A made task needs no file.
 abbrev pub IsComplete : Request → ShelfSeen → ShelfSeen → SinkSeen → SinkSeen → ℕ → Type 0
 IsComplete request shelf shelf' out out' result =
     (files : List NamedBytes) → AreTold request shelf files → AreFaultless request files →

@@ -1,5 +1,6 @@
 -- The search of `plan`: how it ends, and what is printed of that.
-use Rattle.std.specs.Prelude.{◌≡◌, ℕ, ◌-◌, ◌^◌, ◌<◌, ◌≤◌, Bool, true, false, List, [], ◌++◌, All, ⊤, Option, Some, None, codes, decimal}
+use Rattle.std.specs.Prelude.{◌≡◌, ℕ, ◌-◌, ◌^◌, ◌<◌, ◌≤◌, Bool, true, false, List, [], ◌++◌, All, ⊤, Option}
+use Rattle.std.specs.Prelude.{Some, None, codes, decimal}
 use Rattle.pl_task.specs.declared.task.Task.{Task}
 use Rattle.pl_task.specs.States.{State, IsStep}
 use Rattle.pl_hooks.specs.Hopeless.{is_hopeless}
@@ -37,7 +38,8 @@ CanRun (FindPlan domain problem options) = (1 ≤ limit_of options) × (limit_of
 CanRun (Make kind n start) = IsSize kind n
 
 -- the search with this limit ends so, with these counts; hopeless states are cut
-pub record IsSearchedBy (task : Task) (by : Search) (limit : ℕ) (ending : Ending) (stats : Stats) : Type 0 where
+pub record IsSearchedBy (task : Task) (by : Search) (limit : ℕ) (ending : Ending)
+    (stats : Stats) : Type 0 where
   pub of : SearchRecord
   pub ends : IsEndingOf task (is_hopeless task) by limit of ending stats
 

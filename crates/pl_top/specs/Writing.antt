@@ -25,7 +25,8 @@ abbrev pub Writes : List ℕ → ℕ → SinkSeen → SinkSeen → SinkSeen → 
 Writes text status out out' err err' result =
     IsWholeText text status out out' err err' result ⊎ IsCutOff text out out' err err' result
 
--- the text of an outcome was written, whole or in part; an outcome with a text has no line, and its status isn't 4
+-- the text of an outcome was written, whole or in part; an outcome with a text has no line, and its status
+-- isn't 4
 pub record IsPrinted (IsOutcome : Outcome → Type 0) (out out' err err' : SinkSeen) (result : ℕ) : Type 0 where
   pub outcome : Outcome
   pub is : IsOutcome outcome
@@ -41,4 +42,5 @@ pub record IsOutOfMemory (out out' err err' : SinkSeen) (result : ℕ) : Type 0 
 
 -- the end of a run whose files were read whole and have no fault
 abbrev pub Finishes : (Outcome → Type 0) → SinkSeen → SinkSeen → SinkSeen → SinkSeen → ℕ → Type 0
-Finishes IsOutcome out out' err err' result = IsPrinted IsOutcome out out' err err' result ⊎ IsOutOfMemory out out' err err' result
+Finishes IsOutcome out out' err err' result = IsPrinted IsOutcome out out' err err' result
+    ⊎ IsOutOfMemory out out' err err' result

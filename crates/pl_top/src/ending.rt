@@ -16,7 +16,8 @@ use pl_print::{put_plan, put_stats};
 use pl_registry::Stats;
 use pl_task::Task;
 
-/// Prints how the search ended under its limit, and what it counted where that is asked for. Answers the status.
+/// Prints how the search ended under its limit, and what it counted where that is asked for. Answers the
+/// status.
 pub fn print_ended<O: Sink, E: Sink>(
     task: &Task,
     end: &SearchEnd,

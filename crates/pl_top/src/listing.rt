@@ -1,14 +1,16 @@
 //! Writes the list of the steps that are applicable in a state.
 
-ghost use Rattle.std.specs.Prelude.{◌≡◌, ◌≤◌, ◌+◌, ◌++◌, [], All, IfErr, IfOk, IfSome, OnErr, OnOk};
+ghost use Rattle.std.specs.Prelude.{◌≡◌, ◌≤◌, ◌+◌, ◌*◌, ◌++◌, [], length};
+ghost use Rattle.std.specs.Prelude.{All, IfErr, IfOk, IfSome, OnErr, OnOk};
 ghost use Rattle.std.specs.Io.KnownBytes.{Appends};
 ghost use Rattle.pl_io.specs.Blocks.{held_of};
 ghost use Rattle.pl_io.specs.Outside.{AppendsFront, HasCause};
 ghost use Rattle.pl_task.specs.States.{IsStep};
 ghost use Rattle.pl_state.specs.StateOf.{state_in, IsStateOf};
-ghost use Rattle.pl_normal.specs.Measures.{probe_bound};
-ghost use Rattle.pl_gen.specs.Walks.{AreAcyclic, state_of_prepared, walk_reads};
-ghost use Rattle.pl_top.specs.Listing.{end_text, list_text, listed_steps, successors_text};
+ghost use Rattle.pl_normal.specs.Measures.{largest_size, probe_bound};
+ghost use Rattle.pl_gen.specs.Walks.{AreAcyclic, AreLocal, resume_reads, state_of_prepared, walk_reads};
+ghost use Rattle.pl_top.specs.Listing.{end_text, first_steps, list_text, listed_steps};
+ghost use Rattle.pl_top.specs.Listing.{page_bound, successors_text};
 ghost use Rattle.pl_top.specs.Putting as spec;
 ghost use Rattle.pl_top.specs.Putting.{IsListEnd, IsNextCut, IsNextPut};
 
@@ -47,12 +49,17 @@ pub fn put_list<O: Sink, L: Ledger>(
 ) -> Result<(), ListEnd>
     requires state { IsStateOf task.now state.now }
     requires past { IfSome past (λ step. IsStep task.now step.now) }
-    ensures all { let text = successors_text task.now (state_in task.now state.now) (spec.lent past.entry) count in
+    ensures all { let text = successors_text task.now (state_in task.now state.now)
+        (spec.lent past.entry) count in
         OnOk result (Appends (O.seen out.old).written (O.seen out.new).written text) }
-    ensures end { let text = successors_text task.now (state_in task.now state.now) (spec.lent past.entry) count in
+    ensures end { let text = successors_text task.now (state_in task.now state.now)
+        (spec.lent past.entry) count in
         IfErr result (IsListEnd text (O.seen out.old) (O.seen out.new)) }
     ensures work { OnOk result (AreAcyclic task.now →
         steps.new ≤ steps.old + probe_bound task.now (state_in task.now state.now)) }
+    ensures page { OnOk result (AreAcyclic task.now → AreLocal task.now 0 (length task.now.schemas) →
+        steps.new ≤ steps.old +
+        page_bound task.now (state_in task.now state.now) (spec.lent past.entry) count) }
 {
     let normal = match normal(alloc, task) {
         Ok(normal) => normal,
@@ -82,9 +89,12 @@ fn walk_past<'p, L: Ledger>(
 ) -> Walk<'p>
     requires task { prepared.now.task ≡ _task.now }
     requires past { IfSome past (λ step. IsStep _task.now step.now) }
-    ensures left { result.left ≡ listed_steps _task.now (state_of_prepared prepared.now) (spec.lent past.entry) }
+    ensures left { result.left ≡ listed_steps _task.now (state_of_prepared prepared.now)
+        (spec.lent past.entry) }
     ensures steps { All (IsStep _task.now) result.left }
     ensures cost { steps.new + result.reads ≤ steps.old + walk_reads prepared.now }
+    ensures prepared { result.prepared ≡ prepared.now }
+    ensures few { steps.new ≤ steps.old + resume_reads prepared.now }
 {
     steps_are_listed_in_order(_task);
     tests_decide(_task);
@@ -94,8 +104,8 @@ fn walk_past<'p, L: Ledger>(
     }
 }
 
-/// Writes the steps that a walk has left, at most `count` of them, and whether there are more. It takes no memory: lines are
-/// gathered in the blocks, so that a line costs no call of the sink.
+/// Writes the steps that a walk has left, at most `count` of them, and whether there are more. It takes no
+/// memory: lines are gathered in the blocks, so that a line costs no call of the sink.
 pub fn put_steps<O: Sink, L: Ledger>(
     blocks: &mut Blocks,
     out: &mut O,
@@ -112,6 +122,8 @@ pub fn put_steps<O: Sink, L: Ledger>(
         (list_text task.now count walk.old.left)) }
     ensures cause { HasCause (O.seen out.old).faults (O.seen out.new).faults result }
     ensures cost { steps.new ≤ steps.old + walk.old.reads }
+    ensures page { let over = walk.old.prepared.task in AreLocal over 0 (length over.schemas) →
+        steps.new ≤ steps.old + 2 * largest_size over * (length (first_steps count walk.old.left) + 1) }
 {
     let mut count = count;
     while !is_spent(count) {
@@ -159,6 +171,9 @@ fn put_next<O: Sink, L: Ledger>(
         (O.seen out.old).written (O.seen out.new).written (held_of blocks.old)) }
     ensures cause { HasCause (O.seen out.old).faults (O.seen out.new).faults result }
     ensures cost { steps.new + walk.new.reads ≤ steps.old + walk.old.reads }
+    ensures prepared { walk.new.prepared ≡ walk.old.prepared }
+    ensures each { let over = walk.old.prepared.task in AreLocal over 0 (length over.schemas) →
+        steps.new ≤ steps.old + 2 * largest_size over }
 {
     match walk.next(steps) {
         None => Ok(false),
@@ -182,6 +197,8 @@ fn put_end<O: Sink, L: Ledger>(
         (held_of blocks.old ++ end_text walk.old.left)) }
     ensures cause { HasCause (O.seen out.old).faults (O.seen out.new).faults result }
     ensures cost { steps.new ≤ steps.old + walk.old.reads }
+    ensures each { let over = walk.old.prepared.task in AreLocal over 0 (length over.schemas) →
+        steps.new ≤ steps.old + 2 * largest_size over }
 {
     match walk.next(steps) {
         None => put_last(blocks, out, b"; end\n"),

@@ -34,8 +34,8 @@ use pl_valid::{Verdict, judge};
 use std::alloc::{AllocError, Global};
 use std::sync::ledger::Ledger;
 
-/// Makes a task of the kind in size `n`, where `start` is drawn from, and looks for a plan of it: prints what was counted
-/// and the verdict on the plan, or why there is no plan. No file is read.
+/// Makes a task of the kind in size `n`, where `start` is drawn from, and looks for a plan of it: prints what
+/// was counted and the verdict on the plan, or why there is no plan. No file is read.
 pub fn make<O: Sink, E: Sink, L: Ledger>(
     alloc: Global,
     kind: Kind,
@@ -145,8 +145,8 @@ fn sum_up<O: Sink, E: Sink>(
     }
 }
 
-/// The verdict on the steps of a plan, which are judged as the lines of a plan file are. The error says that memory ran
-/// out.
+/// The verdict on the steps of a plan, which are judged as the lines of a plan file are. The error says that
+/// memory ran out.
 fn verdict_on(alloc: Global, task: &Task, steps: &[Step]) -> Result<Verdict, AllocError>
     requires few { length steps.now ≤ 2 ^ 24 }
     requires steps { All (IsStep task.now) steps.now }

@@ -102,7 +102,8 @@ fn solve<O: Sink, E: Sink, L: Ledger>(
     ensures ends { Finishes (IsSearchOutcome task.now (plan_options_named options))
         (O.seen out.old) (O.seen out.new) (E.seen err.old) (E.seen err.new) result }
     ensures work { let asked = plan_options_named options in
-        IsSearchEnded result → IsSearchWithin task.now (search_of asked) (limit_of asked) steps.old steps.new }
+        IsSearchEnded result → IsSearchWithin task.now (search_of asked)
+        (limit_of asked) steps.old steps.new }
 {
     let kind = kind_of(options.search);
     let limit = limit_of(options.limit);

@@ -174,7 +174,8 @@ fn options_of(words: &Words) -> Option<Options<'_>>
 
 /// The options with a further one.
 fn with_option<'w>(options: Options<'w>, name: &str, value: &'w str) -> Option<Options<'w>>
-    ensures { option_map options_named result ≡ spec.with_option (options_named options.entry) name.now value.now }
+    ensures { option_map options_named result ≡ spec.with_option (options_named options.entry) name.now
+        value.now }
 {
     if name == "--after" {
         return with_after(options, value);

@@ -24,8 +24,8 @@ use pl_steps::Steps;
 use std::alloc::Global;
 use std::sync::ledger::Ledger;
 
-/// Does what the words ask: reads the files from the shelf, writes the answer to `out` and a refusal's line to `err`, and
-/// answers the exit status. `steps` counts the probes of the run.
+/// Does what the words ask: reads the files from the shelf, writes the answer to `out` and a refusal's line
+/// to `err`, and answers the exit status. `steps` counts the probes of the run.
 pub fn run<S: Shelf, O: Sink, E: Sink, L: Ledger>(
     alloc: Global,
     words: &Words,
@@ -81,7 +81,8 @@ fn perform<S: Shelf, O: Sink, E: Sink, L: Ledger>(
         (O.seen out.old) (O.seen out.new) (E.seen err.old) (E.seen err.new) result }
     ensures no_file { spec.names_of (named request.now) ≡ [] → shelf.new ≡ shelf.old }
     ensures probes { IfProbeless (named request.now) (steps.new ≡ steps.old) }
-    ensures work { IsWithin (named request.now) (S.seen shelf.old) (S.seen shelf.new) steps.old steps.new result }
+    ensures work { IsWithin (named request.now) (S.seen shelf.old) (S.seen shelf.new) steps.old steps.new
+        result }
 {
     match *request {
         Request::Validate {

@@ -16,7 +16,8 @@ pub enum SearchOutcome {
     Found(Plan),
     /// No plan exists.
     Unsolvable,
-    /// No state is left to expand, but states that aren't new were left out, and a plan may lead through them.
+    /// No state is left to expand, but states that aren't new were left out, and a plan may lead through
+    /// them.
     Exhausted,
     /// One more state than the limit allows would have been registered.
     Limit,

@@ -17,7 +17,7 @@ use pl_greedy::greedy;
 use pl_hooks::{HopelessTest, Pruner, Ranker};
 use pl_normal::normal;
 use pl_registry::{Ended, Registry};
-use pl_state::{Packed, pack, unmet};
+use pl_state::{GoalTest, Packed, pack};
 use pl_steps::Steps;
 use pl_task::Task;
 use std::alloc::{AllocError, Global};
@@ -46,8 +46,8 @@ pub fn searched<L: Ledger>(
     }
 }
 
-/// How breadth-first search of the task ends, with at most `limit` states. Hopeless states are cut. The only error is
-/// want of memory.
+/// How breadth-first search of the task ends, with at most `limit` states. Hopeless states are cut. The only
+/// error is want of memory.
 pub fn breadth_first<L: Ledger>(
     alloc: Global,
     task: &Task,
@@ -69,8 +69,8 @@ pub fn breadth_first<L: Ledger>(
     breadth(alloc, &normal, &mut registry, &pruner, steps)
 }
 
-/// How greedy best-first search of the task ends, by the number of unmet goal literals, with at most `limit` states.
-/// Hopeless states are cut. The only error is want of memory.
+/// How greedy best-first search of the task ends, by the number of unmet goal literals, with at most `limit`
+/// states. Hopeless states are cut. The only error is want of memory.
 fn best_first<L: Ledger>(
     alloc: Global,
     task: &Task,
@@ -87,14 +87,15 @@ fn best_first<L: Ledger>(
     let normal = normal(alloc, task)?;
     let initial = pack(alloc, task, task.init.as_slice())?;
     let mut registry = Registry::new(alloc, limit, initial)?;
-    let ranker = Ranker::new(task, |state: &Packed| unmet(task, state));
+    let goal = GoalTest::of(alloc, task)?;
+    let ranker = Ranker::new(task, |state: &Packed| goal.unmet(task, state));
     let test = HopelessTest::of(alloc, task)?;
     let pruner = Pruner::new(task, |state: &Packed| test.is_hopeless(task, state));
     greedy(alloc, &normal, &mut registry, &ranker, &pruner, steps)
 }
 
-/// How the search of the task by width `k` ends, which is 1 or 2, with at most `limit` states. The only error is want
-/// of memory.
+/// How the search of the task by width `k` ends, which is 1 or 2, with at most `limit` states. The only error
+/// is want of memory.
 fn by_width<L: Ledger>(
     alloc: Global,
     task: &Task,

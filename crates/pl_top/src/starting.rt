@@ -7,7 +7,7 @@ ghost use Rattle.pl_valid.specs.Verdict.{IsLineOf};
 ghost use Rattle.pl_top.specs.Answer.{AreLinesOfAny, IsFaultOfAny, IsListed, IsNoStep, IsStepOfText};
 ghost use Rattle.pl_top.specs.Asked.{bytes_in};
 ghost use Rattle.pl_top.specs.Refusal.{IsUnanswered};
-ghost use Rattle.pl_top.specs.Starting.{IsReady, IsStartOf, IsStartStated};
+ghost use Rattle.pl_top.specs.Starting.{IsPageOf, IsReady, IsStartOf, IsStartStated};
 
 use crate::refusal::Refusal;
 use crate::validating::{faulty, of_input};
@@ -43,6 +43,7 @@ pub fn start_of(
     ensures start { IfOk result
         (IsStartOf domain.now problem.now (bytes_in plan.entry) (bytes_in past.entry) count) }
     ensures stated { IfOk result (IsStartStated domain.now problem.now (bytes_in plan.entry)) }
+    ensures page { IfOk result (IsPageOf (bytes_in past.entry) count) }
     ensures ready { IfOk result IsReady }
     ensures refused { IfErr result (IsUnanswered
         (IsListed domain.now problem.now (bytes_in plan.entry) (bytes_in past.entry) count)) }

@@ -4,13 +4,15 @@ ghost use Rattle.std.specs.Prelude.{◌≡◌, ◌≤◌, ◌+◌, [], ◌∷◌
 ghost use Rattle.pl_io.specs.Outside.{BegunThen, most_file_bytes};
 ghost use Rattle.pl_state.specs.StateOf.{state_in, IsStateOf};
 ghost use Rattle.pl_normal.specs.Measures.{probe_bound};
-ghost use Rattle.pl_gen.specs.Walks.{AreAcyclic};
+ghost use Rattle.pl_gen.specs.Walks.{AreAcyclic, AreLocal};
 ghost use Rattle.pl_top.specs.Answer.{Outcome, IsAnswer, IsListed, list_outcome};
 ghost use Rattle.pl_top.specs.Asked.{bytes_in, items_in, options_named};
-ghost use Rattle.pl_top.specs.Refusal.{HasBegun, IsPlanUnread, IsPlanWhole, IsRefused, IsUnanswered, names_after};
+ghost use Rattle.pl_top.specs.Listing.{page_bound};
+ghost use Rattle.pl_top.specs.Refusal.{HasBegun, IsPlanUnread, IsPlanWhole, IsRefused, IsUnanswered};
+ghost use Rattle.pl_top.specs.Refusal.{names_after};
 ghost use Rattle.pl_top.specs.Request as spec;
 ghost use Rattle.pl_top.specs.Run.{RunEnds};
-ghost use Rattle.pl_top.specs.Starting.{IsReady, IsStartOf, IsStartRead, IsStartStated, IsWorkedAt};
+ghost use Rattle.pl_top.specs.Starting.{IsPageOf, IsReady, IsStartOf, IsStartRead, IsStartStated, IsWorkedAt};
 ghost use Rattle.pl_top.specs.Work.{IsListWithin, IsWalkWithin};
 ghost use Rattle.pl_top.specs.Writing.{Finishes};
 
@@ -40,7 +42,8 @@ pub fn successors<S: Shelf, O: Sink, E: Sink, L: Ledger>(
     steps: &mut Steps<L>,
 ) -> u8
     ensures ends { RunEnds (spec.Successors domain.now problem.now (options_named options.entry))
-        (S.seen shelf.old) (S.seen shelf.new) (O.seen out.old) (O.seen out.new) (E.seen err.old) (E.seen err.new)
+        (S.seen shelf.old) (S.seen shelf.new) (O.seen out.old) (O.seen out.new) (E.seen err.old)
+        (E.seen err.new)
         result }
     ensures work { result ≡ 0 → IsListWithin domain.now problem.now (options_named options.entry)
         (S.seen shelf.old) (S.seen shelf.new) steps.old steps.new }
@@ -64,6 +67,7 @@ fn started<S: Shelf>(
         IsAnswer request (S.seen shelf.old).files (S.seen shelf.new).place outcome) }
     ensures read { IfOk result (IsStartRead domain.now problem.now (bytes_in options.entry.after)
         (S.seen shelf.old) (S.seen shelf.new)) }
+    ensures page { IfOk result (IsPageOf (bytes_in options.entry.past) options.entry.count) }
     ensures ready { IfOk result IsReady }
     ensures begun { let request = spec.Successors domain.now problem.now (options_named options.entry) in
         IfOk result (λ start. HasBegun request 3 (S.seen shelf.old) (S.seen shelf.new)) }
@@ -86,7 +90,8 @@ fn read_plan_file<S: Shelf>(
     ensures unread { IfErr result (IsPlanUnread (bytes_in name.entry) (S.seen shelf.old) (S.seen shelf.new)) }
     ensures files { (S.seen shelf.new).files ≡ (S.seen shelf.old).files }
     ensures faults { (S.seen shelf.old).faults ≤ (S.seen shelf.new).faults }
-    ensures begun { BegunThen (S.seen shelf.old).begun (names_after (bytes_in name.entry)) (S.seen shelf.new).begun }
+    ensures begun { BegunThen (S.seen shelf.old).begun (names_after (bytes_in name.entry))
+        (S.seen shelf.new).begun }
 {
     let Some(name) = name else {
         return Ok(None);
@@ -112,6 +117,7 @@ fn start_from(
     ensures start { IfOk result
         (IsStartOf domain.now problem.now (items_in plan.now) (bytes_in past.entry) count) }
     ensures stated { IfOk result (IsStartStated domain.now problem.now (items_in plan.now)) }
+    ensures page { IfOk result (IsPageOf (bytes_in past.entry) count) }
     ensures ready { IfOk result IsReady }
     ensures refused { IfErr result (IsUnanswered
         (IsListed domain.now problem.now (items_in plan.now) (bytes_in past.entry) count)) }
@@ -133,7 +139,8 @@ fn finish<O: Sink, E: Sink, L: Ledger>(
     requires { IsReady start.now }
     ensures ends { Finishes (IsWorkedAt start.now)
         (O.seen out.old) (O.seen out.new) (E.seen err.old) (E.seen err.new) result }
-    ensures work { result ≡ 0 → IsWalkWithin start.now.task start.now.lines steps.old steps.new }
+    ensures work { result ≡ 0 → IsWalkWithin start.now.task start.now.lines start.now.past start.now.count
+        steps.old steps.new }
 {
     match reached(alloc, &start.task, start.lines.as_slice()) {
         Ok(Destination::Refused(verdict)) => print_verdict(&verdict, out, err),
@@ -158,6 +165,9 @@ fn print_list<O: Sink, E: Sink, L: Ledger>(
         (O.seen out.old) (O.seen out.new) (E.seen err.old) (E.seen err.new) result }
     ensures work { result ≡ 0 → AreAcyclic start.now.task →
         steps.new ≤ steps.old + probe_bound start.now.task (state_in start.now.task state.now) }
+    ensures page { result ≡ 0 → AreAcyclic start.now.task →
+        AreLocal start.now.task 0 (length start.now.task.schemas) → steps.new ≤ steps.old +
+        page_bound start.now.task (state_in start.now.task state.now) start.now.past start.now.count }
 {
     match put_list(
         alloc,

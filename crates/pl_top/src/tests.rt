@@ -12,10 +12,10 @@ use std::sync::ledger::{Blank, Ledger};
 use std::test::Fail;
 
 /// The words that the files of a case are asked with.
-const VALIDATE: &[&str] = &["validate", "d", "p", "l"];
+pub const VALIDATE: &[&str] = &["validate", "d", "p", "l"];
 
 /// A domain with one action, from a place to a linked one.
-const HOP: &str = "(define (domain hop)
+pub const HOP: &str = "(define (domain hop)
  (:predicates (at ?x) (link ?x ?y))
  (:action hop :parameters (?x ?y)
   :precondition (and (at ?x) (link ?x ?y))
@@ -31,7 +31,7 @@ const ONCE: &str = "(define (domain hop)
 ";
 
 /// Three places in a row, with the goal at the end.
-const ROW: &str = "(define (problem h) (:domain hop) (:objects a b c)
+pub const ROW: &str = "(define (problem h) (:domain hop) (:objects a b c)
  (:init (at a) (link a b) (link b c)) (:goal (at c)))
 ";
 
@@ -52,19 +52,19 @@ const READY: &str = "(define (problem s) (:domain switches) (:objects)
  (:init (READY) (ready)) (:goal (and (on))))
 ";
 
-/// A run and what it has to answer: the words, the files of the shelf by name, the numbers of the calls that fail, how
-/// many bytes a call gives or takes, and then the status and the two texts.
+/// A run and what it has to answer: the words, the files of the shelf by name, the numbers of the calls that
+/// fail, how many bytes a call gives or takes, and then the status and the two texts.
 #[derive(Drop)]
-struct Case<'a> {
-    words: &'a [&'a str],
-    files: &'a [(&'a str, &'a str)],
-    failing_reads: &'a [u64],
-    failing_writes: &'a [u64],
-    failing_lines: &'a [u64],
-    piece: usize,
-    status: u8,
-    out: &'a str,
-    err: &'a str,
+pub struct Case<'a> {
+    pub words: &'a [&'a str],
+    pub files: &'a [(&'a str, &'a str)],
+    pub failing_reads: &'a [u64],
+    pub failing_writes: &'a [u64],
+    pub failing_lines: &'a [u64],
+    pub piece: usize,
+    pub status: u8,
+    pub out: &'a str,
+    pub err: &'a str,
 }
 
 /// The bytes of a text.
@@ -73,7 +73,7 @@ fn bytes_of(alloc: Global, text: &str) -> Result<Vec<u8>, AllocError> {
 }
 
 /// The words, each stored.
-fn words_of(alloc: Global, texts: &[&str]) -> Result<Words, AllocError> {
+pub fn words_of(alloc: Global, texts: &[&str]) -> Result<Words, AllocError> {
     let mut words = Words::new(alloc);
     for text in texts {
         words.push(text)?;
@@ -82,7 +82,7 @@ fn words_of(alloc: Global, texts: &[&str]) -> Result<Words, AllocError> {
 }
 
 /// The files of a table, with their bytes.
-fn files_of(alloc: Global, texts: &[(&str, &str)]) -> Result<Vec<NamedFile>, AllocError> {
+pub fn files_of(alloc: Global, texts: &[(&str, &str)]) -> Result<Vec<NamedFile>, AllocError> {
     let mut files = Vec::new(alloc);
     for (name, text) in texts {
         files.push(NamedFile {
@@ -94,7 +94,7 @@ fn files_of(alloc: Global, texts: &[(&str, &str)]) -> Result<Vec<NamedFile>, All
 }
 
 /// Whether a run answers as its case says.
-fn is_met<L: Ledger>(alloc: Global, case: &Case<'_>, blank: Blank) -> Result<bool, AllocError>
+pub fn is_met<L: Ledger>(alloc: Global, case: &Case<'_>, blank: Blank) -> Result<bool, AllocError>
     requires name { blank.name ≡ L.name }
     requires parts { blank.parts ≡ L.parts }
     requires some { 0 < blank.parts }
@@ -184,7 +184,7 @@ const JUDGED: &[Judged] = &[
 ];
 
 /// Files of which one is faulty, with the line for the fault.
-type Faulty = (&'static str, &'static str, &'static str, &'static str);
+pub type Faulty = (&'static str, &'static str, &'static str, &'static str);
 
 /// A condition over a predicate that isn't declared, before an effect over a variable that is no parameter.
 const TWO_FAULTS: &str = "(define (domain d)
@@ -194,7 +194,7 @@ const TWO_FAULTS: &str = "(define (domain d)
  :effect (p ?y)))
 ";
 
-const FAULTY: &[Faulty] = &[
+pub const FAULTY: &[Faulty] = &[
     ("", ROW, "", "powerlift: domain:1:1: not one form\n"),
     ("(", ROW, "", "powerlift: domain:1:1: unclosed bracket\n"),
     (
@@ -236,7 +236,7 @@ const FAULTY: &[Faulty] = &[
 ];
 
 /// The files of the usual words.
-fn three<'a>(domain: &'a str, problem: &'a str, plan: &'a str) -> [(&'static str, &'a str); 3] {
+pub fn three<'a>(domain: &'a str, problem: &'a str, plan: &'a str) -> [(&'static str, &'a str); 3] {
     [("d", domain), ("p", problem), ("l", plan)]
 }
 
@@ -351,403 +351,10 @@ fn other_words_are_no_request(rt: HostRuntime) -> Result<(), Fail> {
 }
 
 /// The plan that leads along the row.
-const ALONG: &str = "(hop a b) (hop b c)";
+pub const ALONG: &str = "(hop a b) (hop b c)";
 
 /// The shelf of most cases.
-const SHELF: &[(&str, &str)] = &[("d", HOP), ("p", ROW), ("l", ALONG)];
-
-/// A shelf or a stream that fails or is short of a file. With 4,096 bytes a call each file takes three calls of the shelf: it is begun, its bytes
-/// are given, and then none.
-const OUTSIDE: &[Case<'static>] = &[
-    Case {
-        words: VALIDATE,
-        files: SHELF,
-        failing_reads: &[],
-        failing_writes: &[],
-        failing_lines: &[],
-        piece: 1,
-        status: 0,
-        out: "valid 2\n",
-        err: "",
-    },
-    Case {
-        words: VALIDATE,
-        files: SHELF,
-        failing_reads: &[],
-        failing_writes: &[],
-        failing_lines: &[],
-        piece: 7,
-        status: 0,
-        out: "valid 2\n",
-        err: "",
-    },
-    // The first file of a name counts, and a name may be that of several files of the request.
-    Case {
-        words: VALIDATE,
-        files: &[("d", HOP), ("d", ""), ("p", ROW), ("l", ALONG)],
-        failing_reads: &[],
-        failing_writes: &[],
-        failing_lines: &[],
-        piece: 7,
-        status: 0,
-        out: "valid 2\n",
-        err: "",
-    },
-    Case {
-        words: &["validate", "d", "d", "d"],
-        files: SHELF,
-        failing_reads: &[],
-        failing_writes: &[],
-        failing_lines: &[],
-        piece: 7,
-        status: 3,
-        out: "",
-        err: "powerlift: problem:1:9: bad form\n",
-    },
-    Case {
-        words: VALIDATE,
-        files: &[("d", HOP), ("l", ALONG)],
-        failing_reads: &[],
-        failing_writes: &[],
-        failing_lines: &[],
-        piece: 7,
-        status: 4,
-        out: "",
-        err: "powerlift: cannot read problem\n",
-    },
-    Case {
-        words: VALIDATE,
-        files: &[],
-        failing_reads: &[],
-        failing_writes: &[],
-        failing_lines: &[],
-        piece: 7,
-        status: 4,
-        out: "",
-        err: "powerlift: cannot read domain\n",
-    },
-    // A missing file comes before a fault.
-    Case {
-        words: VALIDATE,
-        files: &[("d", "("), ("p", "(")],
-        failing_reads: &[],
-        failing_writes: &[],
-        failing_lines: &[],
-        piece: 7,
-        status: 4,
-        out: "",
-        err: "powerlift: cannot read plan\n",
-    },
-    Case {
-        words: &["validate", "", "p", "l"],
-        files: SHELF,
-        failing_reads: &[],
-        failing_writes: &[],
-        failing_lines: &[],
-        piece: 7,
-        status: 4,
-        out: "",
-        err: "powerlift: cannot read domain\n",
-    },
-    Case {
-        words: VALIDATE,
-        files: SHELF,
-        failing_reads: &[1],
-        failing_writes: &[],
-        failing_lines: &[],
-        piece: 4096,
-        status: 4,
-        out: "",
-        err: "powerlift: cannot read domain\n",
-    },
-    Case {
-        words: VALIDATE,
-        files: SHELF,
-        failing_reads: &[3],
-        failing_writes: &[],
-        failing_lines: &[],
-        piece: 4096,
-        status: 4,
-        out: "",
-        err: "powerlift: cannot read domain\n",
-    },
-    Case {
-        words: VALIDATE,
-        files: SHELF,
-        failing_reads: &[4],
-        failing_writes: &[],
-        failing_lines: &[],
-        piece: 4096,
-        status: 4,
-        out: "",
-        err: "powerlift: cannot read problem\n",
-    },
-    Case {
-        words: VALIDATE,
-        files: SHELF,
-        failing_reads: &[8],
-        failing_writes: &[],
-        failing_lines: &[],
-        piece: 4096,
-        status: 4,
-        out: "",
-        err: "powerlift: cannot read plan\n",
-    },
-    Case {
-        words: VALIDATE,
-        files: SHELF,
-        failing_reads: &[10],
-        failing_writes: &[],
-        failing_lines: &[],
-        piece: 4096,
-        status: 0,
-        out: "valid 2\n",
-        err: "",
-    },
-    Case {
-        words: VALIDATE,
-        files: SHELF,
-        failing_reads: &[],
-        failing_writes: &[1],
-        failing_lines: &[],
-        piece: 4,
-        status: 5,
-        out: "",
-        err: "powerlift: cannot write\n",
-    },
-    Case {
-        words: VALIDATE,
-        files: SHELF,
-        failing_reads: &[],
-        failing_writes: &[2],
-        failing_lines: &[],
-        piece: 4,
-        status: 5,
-        out: "vali",
-        err: "powerlift: cannot write\n",
-    },
-    Case {
-        words: VALIDATE,
-        files: SHELF,
-        failing_reads: &[],
-        failing_writes: &[4],
-        failing_lines: &[],
-        piece: 4,
-        status: 5,
-        out: "valid 2",
-        err: "powerlift: cannot write\n",
-    },
-    Case {
-        words: &["plan", "d", "p"],
-        files: &[("d", HOP)],
-        failing_reads: &[],
-        failing_writes: &[],
-        failing_lines: &[],
-        piece: 7,
-        status: 4,
-        out: "",
-        err: "powerlift: cannot read problem\n",
-    },
-    Case {
-        words: &["plan", "d", "p"],
-        files: &[("d", "("), ("p", ROW)],
-        failing_reads: &[],
-        failing_writes: &[],
-        failing_lines: &[],
-        piece: 7,
-        status: 3,
-        out: "",
-        err: "powerlift: domain:1:1: unclosed bracket\n",
-    },
-    Case {
-        words: &["plan", "d", "p"],
-        files: SHELF,
-        failing_reads: &[4],
-        failing_writes: &[],
-        failing_lines: &[],
-        piece: 4096,
-        status: 4,
-        out: "",
-        err: "powerlift: cannot read problem\n",
-    },
-    Case {
-        words: &["make", "hop", "1", "0"],
-        files: &[],
-        failing_reads: &[1],
-        failing_writes: &[3],
-        failing_lines: &[],
-        piece: 4,
-        status: 5,
-        out: "objects ",
-        err: "powerlift: cannot write\n",
-    },
-    // The plan file isn't read.
-    Case {
-        words: &["plan", "d", "p"],
-        files: SHELF,
-        failing_reads: &[7],
-        failing_writes: &[],
-        failing_lines: &[],
-        piece: 4096,
-        status: 0,
-        out: "(hop a b)\n(hop b c)\n; length 2\n",
-        err: "",
-    },
-    Case {
-        words: &["plan", "d", "p"],
-        files: SHELF,
-        failing_reads: &[],
-        failing_writes: &[1],
-        failing_lines: &[],
-        piece: 4096,
-        status: 5,
-        out: "",
-        err: "powerlift: cannot write\n",
-    },
-    Case {
-        words: &["plan", "d", "p", "--stats"],
-        files: SHELF,
-        failing_reads: &[],
-        failing_writes: &[3],
-        failing_lines: &[],
-        piece: 4096,
-        status: 5,
-        out: "(hop",
-        err: "powerlift: cannot write\n",
-    },
-    Case {
-        words: &["plan", "d", "p", "--limit", "1"],
-        files: SHELF,
-        failing_reads: &[],
-        failing_writes: &[3],
-        failing_lines: &[2],
-        piece: 4,
-        status: 5,
-        out: "limit ",
-        err: "powe",
-    },
-    // A failure of `err` changes no status.
-    Case {
-        words: VALIDATE,
-        files: SHELF,
-        failing_reads: &[1],
-        failing_writes: &[],
-        failing_lines: &[1],
-        piece: 4,
-        status: 4,
-        out: "",
-        err: "",
-    },
-    Case {
-        words: VALIDATE,
-        files: SHELF,
-        failing_reads: &[],
-        failing_writes: &[1],
-        failing_lines: &[3],
-        piece: 4,
-        status: 5,
-        out: "",
-        err: "powerlif",
-    },
-    Case {
-        words: &["validate"],
-        files: SHELF,
-        failing_reads: &[],
-        failing_writes: &[],
-        failing_lines: &[2],
-        piece: 4,
-        status: 2,
-        out: "",
-        err: "powe",
-    },
-];
-
-#[test]
-fn failures_have_their_answers(rt: HostRuntime) -> Result<(), Fail> {
-    for (i, case) in OUTSIDE.iter().enumerate() {
-        assert!(rt; case.piece >= 1);
-        let met = is_met::<Brand>(rt.alloc(), case, Blank::new(1))?;
-        assert!(rt; met, "case {i}");
-    }
-    Ok(())
-}
-
-/// So many calls are made of the shelf for a file that is given seven bytes a call: it is begun, its bytes are given, and
-/// then none.
-fn calls_for(text: &str) -> u64 {
-    let whole = (text.len() / 7) as u64;
-    if text.len() % 7 == 0 {
-        whole + 2
-    } else {
-        whole + 3
-    }
-}
-
-/// The line that blames the file whose reading has this call of the shelf, and none past the last file.
-fn blamed(call: u64) -> Option<&'static str> {
-    let domain = calls_for(HOP).min(100);
-    let problem = calls_for(ROW).min(100);
-    let plan = calls_for(ALONG).min(100);
-    if call <= domain {
-        Some("powerlift: cannot read domain\n")
-    } else if call <= domain + problem {
-        Some("powerlift: cannot read problem\n")
-    } else if call <= domain + problem + plan {
-        Some("powerlift: cannot read plan\n")
-    } else {
-        None
-    }
-}
-
-#[test]
-fn each_failing_call_blames_its_file(rt: HostRuntime) -> Result<(), Fail> {
-    for call in 1..80 {
-        let line = blamed(call);
-        let case = Case {
-            words: VALIDATE,
-            files: SHELF,
-            failing_reads: &[call],
-            failing_writes: &[],
-            failing_lines: &[],
-            piece: 7,
-            status: if line.is_some() { 4 } else { 0 },
-            out: if line.is_some() { "" } else { "valid 2\n" },
-            err: line.unwrap_or(""),
-        };
-        let met = is_met::<Brand>(rt.alloc(), &case, Blank::new(1))?;
-        assert!(rt; met, "call {call}");
-    }
-    Ok(())
-}
-
-#[test]
-fn a_failing_line_is_cut_off(rt: HostRuntime) -> Result<(), Fail> {
-    // The line of 21 bytes takes six calls of four.
-    for (call, written) in [
-        (1, ""),
-        (2, "powe"),
-        (3, "powerlif"),
-        (4, "powerlift: b"),
-        (5, "powerlift: bad w"),
-        (6, "powerlift: bad words"),
-        (7, "powerlift: bad words\n"),
-    ] {
-        let case = Case {
-            words: &["validate"],
-            files: SHELF,
-            failing_reads: &[],
-            failing_writes: &[],
-            failing_lines: &[call],
-            piece: 4,
-            status: 2,
-            out: "",
-            err: written,
-        };
-        let met = is_met::<Brand>(rt.alloc(), &case, Blank::new(1))?;
-        assert!(rt; met, "call {call}");
-    }
-    Ok(())
-}
+pub const SHELF: &[(&str, &str)] = &[("d", HOP), ("p", ROW), ("l", ALONG)];
 
 /// A domain of one byte so often, and the problem and the plan of most cases.
 fn long_domain(alloc: Global, byte: u8, length: usize) -> Result<Vec<NamedFile>, AllocError> {
@@ -992,7 +599,7 @@ const WALK_ON: &str = "(define (domain paths)
 ";
 
 /// A domain, a problem and a plan, the options, and then the status and the two texts.
-type Listed = (
+pub type Listed = (
     &'static str,
     &'static str,
     &'static str,
@@ -1002,7 +609,7 @@ type Listed = (
     &'static str,
 );
 
-const LISTED: &[Listed] = &[
+pub const LISTED: &[Listed] = &[
     (
         WALK,
         LINKS,
@@ -1393,10 +1000,10 @@ const MADE: &str = "(define (problem m) (:domain makers) (:init) (:goal (and (p)
 ";
 
 /// The plan that leads along the row, as it is printed.
-const ALONG_PRINTED: &str = "(hop a b)\n(hop b c)\n; length 2\n";
+pub const ALONG_PRINTED: &str = "(hop a b)\n(hop b c)\n; length 2\n";
 
 /// A domain, a problem and the options of `plan`, and then the status and the text.
-type Planned = (
+pub type Planned = (
     &'static str,
     &'static str,
     &'static [&'static str],
@@ -1404,7 +1011,7 @@ type Planned = (
     &'static str,
 );
 
-const PLANNED: &[Planned] = &[
+pub const PLANNED: &[Planned] = &[
     (HOP, ROW, &["plan", "d", "p"], 0, ALONG_PRINTED),
     (
         HOP,

@@ -10,7 +10,9 @@ returns-in-Ok g c =
       status_is = c.status.ensures;
       put = record {
         whole = c.in-Ok.ensures.all;
-        untouched = λ none. absurd (ended_text_some c.args.task.now c.args.limit c.args.stats ending c.args.end.now.stats none);
+        untouched = λ none.
+            absurd (ended_text_some c.args.task.now c.args.limit c.args.stats ending c.args.end.now.stats
+            none);
       };
       quiet = refl;
     })

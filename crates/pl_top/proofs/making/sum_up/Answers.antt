@@ -9,5 +9,6 @@ use Rattle.pl_top.proofs.making.sum_up.Goals as goal
 pub returns-in-Ok : goal.returns-in-Ok
 returns-in-Ok g c =
     summed c.args.task.now c.args.plan.now c.args.stats.now c.in-Ok.verdict _ _ _ _ _
-    (subst (λ (steps : List Instance). IsVerdict c.args.task.now (map line.Step steps) c.in-Ok.verdict) c.as_slice.ensures c.in-Ok.ensures)
+    (subst (λ (steps : List Instance). IsVerdict c.args.task.now (map line.Step steps) c.in-Ok.verdict)
+    c.as_slice.ensures c.in-Ok.ensures)
     c.print_summary.ensures

@@ -13,12 +13,15 @@ returns-in-Ok-clause-ends g c =
 
 pub returns-in-Err-clause-ends : goal.returns-in-Err-clause-ends
 returns-in-Err-clause-ends g c =
-    rw c.refuse.ensures.status (refused_run _ _ _ _ _ _ _ _ c.in-Err.ensures.refused refl c.refuse.ensures.line)
+    rw c.refuse.ensures.status
+    (refused_run _ _ _ _ _ _ _ _ c.in-Err.ensures.refused refl c.refuse.ensures.line)
 
 pub returns-in-Ok-clause-work : goal.returns-in-Ok-clause-work
 returns-in-Ok-clause-work g c = λ says.
-    plan_within c.args.domain.now c.args.problem.now (plan_options_named c.args.options) _ _ _ _ c.in-Ok.task c.in-Ok.ensures.read
+    plan_within c.args.domain.now c.args.problem.now (plan_options_named c.args.options) _ _ _ _ c.in-Ok.task
+    c.in-Ok.ensures.read
     (c.solve.ensures.work says)
 
 pub returns-in-Err-clause-work : goal.returns-in-Err-clause-work
-returns-in-Err-clause-work g c = λ says. absurd (refused_no_search c.in-Err.refusal _ c.refuse.ensures.status says)
+returns-in-Err-clause-work g c = λ says.
+    absurd (refused_no_search c.in-Err.refusal _ c.refuse.ensures.status says)

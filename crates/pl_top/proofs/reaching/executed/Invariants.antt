@@ -8,4 +8,5 @@ use Rattle.pl_top.proofs.reaching.executed.Given as goal
 abbrev pub invariant-loop-line : goal.invariant-loop-line
 invariant-loop-line l =
     IsStateOf l.task l.state
-    × (after_lines l.task (state_in l.task l.state) (drop l.line-index l.lines) ≡ after_lines l.task (initial l.task) l.lines)
+    × (after_lines l.task (state_in l.task l.state) (drop l.line-index l.lines) ≡ after_lines l.task
+    (initial l.task) l.lines)

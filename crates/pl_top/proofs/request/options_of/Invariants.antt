@@ -7,7 +7,8 @@ use Rattle.pl_top.proofs.request.options_of.Given as goal
 abbrev pub invariant-loop-at : goal.invariant-loop-at
 invariant-loop-at l =
     (l.at ≤ length l.words)
-    × (with_all (drop l.at l.words) (Some (options_named l.options)) ≡ with_all (drop 3 l.words) (Some no_options))
+    × (with_all (drop l.at l.words) (Some (options_named l.options)) ≡ with_all (drop 3 l.words)
+    (Some no_options))
 
 abbrev pub decreases-loop-at : goal.decreases-loop-at
 decreases-loop-at l = length l.words - l.at

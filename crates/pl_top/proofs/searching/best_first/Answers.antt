@@ -41,7 +41,8 @@ returns-clause-ended g c =
 pub returns-clause-work : goal.returns-clause-work
 returns-clause-work g c =
     greedy_within _ c.args.task.now c.in_ok-normal.normal _ _ c.args.limit c.in_ok-registry.registry
-    c.greedy.new.registry _ _ (c.in_ok-normal.ensures) (ap (λ (r : Register). r.limit) c.in_ok-registry.ensures)
+    c.greedy.new.registry _ _ (c.in_ok-normal.ensures)
+    (ap (λ (r : Register). r.limit) c.in_ok-registry.ensures)
     c.greedy.result c.greedy.ensures.ended c.greedy.ensures.cost c.new-pruner.ensures.cut (record {
       callable = λ s is. search rules;
       answers = λ s b is says. subst

@@ -30,7 +30,8 @@ returns-clause-ended g c =
 pub returns-clause-work : goal.returns-clause-work
 returns-clause-work g c =
     breadth_within _ c.args.task.now c.in_ok-normal.normal _ _ c.args.limit c.in_ok-registry.registry
-    c.breadth.new.registry _ _ (c.in_ok-normal.ensures) (ap (λ (r : Register). r.limit) c.in_ok-registry.ensures)
+    c.breadth.new.registry _ _ (c.in_ok-normal.ensures)
+    (ap (λ (r : Register). r.limit) c.in_ok-registry.ensures)
     c.breadth.result c.breadth.ensures.ended c.breadth.ensures.cost c.new-pruner.ensures.cut (record {
       callable = λ s is. search rules;
       answers = λ s b is says. subst

@@ -17,7 +17,8 @@ pub returns-in-Ok-State-clause-ends : goal.returns-in-Ok-State-clause-ends
 returns-in-Ok-State-clause-ends g c =
     let end = c.in-Ok-State in
     let is : end.field-0 ≡ destination.State end.state = end.field-0-is in
-    finishes_listed _ _ _ _ _ c.args.start.now c.as_slice.result.now (state_in c.args.start.now.task end.state)
+    finishes_listed _ _ _ _ _ c.args.start.now c.as_slice.result.now
+    (state_in c.args.start.now.task end.state)
     c.as_slice.ensures (subst (IsReached c.args.start.now.task c.as_slice.result.now) is end.ensures).1
     c.print_list.ensures.ends
 
@@ -26,15 +27,17 @@ returns-in-Ok-Refused-clause-work g c = λ zero.
     (let end = c.in-Ok-Refused in
     let is : end.field-0 ≡ destination.Refused end.verdict = end.field-0-is in
     absurd (refused_line c.args.start.now.task c.as_slice.result.now end.verdict _ _ _ _ _
-    (subst (IsReached c.args.start.now.task c.as_slice.result.now) is end.ensures) c.print_verdict.ensures zero))
+    (subst (IsReached c.args.start.now.task c.as_slice.result.now) is end.ensures) c.print_verdict.ensures
+    zero))
 
 pub returns-in-Ok-State-clause-work : goal.returns-in-Ok-State-clause-work
 returns-in-Ok-State-clause-work g c = λ zero.
     (let end = c.in-Ok-State in
     let is : end.field-0 ≡ destination.State end.state = end.field-0-is in
-    walk_within c.args.start.now.task c.args.start.now.lines c.as_slice.result.now (state_in c.args.start.now.task end.state) _ _
+    walk_within c.args.start.now.task c.args.start.now.lines c.as_slice.result.now
+    (state_in c.args.start.now.task end.state) c.args.start.now.past c.args.start.now.count _ _
     c.as_slice.ensures (subst (IsReached c.args.start.now.task c.as_slice.result.now) is end.ensures).1
-    (c.print_list.ensures.work zero))
+    (c.print_list.ensures.work zero) (c.print_list.ensures.page zero))
 
 pub returns-in-Err-clause-work : goal.returns-in-Err-clause-work
 returns-in-Err-clause-work g c = λ zero. absurd (memory_no_list _ c.refuse.ensures.status zero)

@@ -8,7 +8,8 @@ returns-in-Ok g c =
       status_is = refl;
       put = record {
         whole = c.in-Ok.ensures.all;
-        untouched = λ none. absurd (summary_some c.args.task.now c.args.plan.now c.args.stats.now c.args.verdict.now none);
+        untouched = λ none.
+            absurd (summary_some c.args.task.now c.args.plan.now c.args.stats.now c.args.verdict.now none);
       };
       quiet = refl;
     })

@@ -11,4 +11,5 @@ returns-in-Ok g c =
 
 pub returns-in-Err : goal.returns-in-Err
 returns-in-Err g c =
-    rw c.refuse.ensures.status (refused_run _ _ _ _ _ _ _ _ c.in-Err.ensures.refused refl c.refuse.ensures.line)
+    rw c.refuse.ensures.status
+    (refused_run _ _ _ _ _ _ _ _ c.in-Err.ensures.refused refl c.refuse.ensures.line)
