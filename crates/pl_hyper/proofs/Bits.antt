@@ -23,10 +23,18 @@ one_max x y (inr a) h k = omega arith
 
 -- a class of two sets, and of either
 pub and_bit : (a b c : ℕ) → (bit_at (bit_and a b) c ≡ 1) ↔ ((bit_at a c ≡ 1) × (bit_at b c ≡ 1))
-and_bit a b c = (λ h. min_one (bit_at a c) (bit_at b c) (sym (bit_at_and a b c) ∙ h) (bit_at-lt b c) (bit_at-lt a c), λ h. bit_at_and a b c ∙ one_min (bit_at a c) (bit_at b c) h.0 h.1)
+and_bit a b c = (
+  λ h. min_one (bit_at a c) (bit_at b c) (sym (bit_at_and a b c) ∙ h) (bit_at-lt b c)
+      (bit_at-lt a c),
+  λ h. bit_at_and a b c ∙ one_min (bit_at a c) (bit_at b c) h.0 h.1,
+)
 
 pub or_bit : (a b c : ℕ) → (bit_at (bit_or a b) c ≡ 1) ↔ ((bit_at a c ≡ 1) ⊎ (bit_at b c ≡ 1))
-or_bit a b c = (λ h. max_one (bit_at a c) (bit_at b c) (sym (bit_at_or a b c) ∙ h), λ h. bit_at_or a b c ∙ one_max (bit_at a c) (bit_at b c) h (bit_at-lt a c) (bit_at-lt b c))
+or_bit a b c = (
+  λ h. max_one (bit_at a c) (bit_at b c) (sym (bit_at_or a b c) ∙ h),
+  λ h. bit_at_or a b c ∙
+      one_max (bit_at a c) (bit_at b c) h (bit_at-lt a c) (bit_at-lt b c),
+)
 
 min_left : (x y : ℕ) → (x ≡ 1 → y ≡ 1) → x < 2 → y < 2 → (x ≡ 1) ⊎ (x ≢ 1) → min x y ≡ x
 min_left x y f h k (inl e) = let at = f e in omega arith
@@ -39,5 +47,6 @@ one_or_not x = grind arith
 pub and_within : (a b : ℕ) → (bit_and a b ≡ a) ↔ ((c : ℕ) → bit_at a c ≡ 1 → bit_at b c ≡ 1)
 and_within a b = (
   λ e c h. ((and_bit a b c).0 (subst (λ x. bit_at x c ≡ 1) (sym e) h)).1,
-  λ f. same_from_bits (bit_and a b) a (λ c. bit_at_and a b c ∙ min_left (bit_at a c) (bit_at b c) (f c) (bit_at-lt a c) (bit_at-lt b c) (one_or_not (bit_at a c))),
+  λ f. same_from_bits (bit_and a b) a (λ c. bit_at_and a b c ∙ min_left (bit_at a c) (bit_at b c) (f c)
+      (bit_at-lt a c) (bit_at-lt b c) (one_or_not (bit_at a c))),
 )

@@ -6,11 +6,12 @@ pub mod Orders
 pub mod Rising
 -- for the crates above: sets of classes as bits
 pub mod Bits
--- trees and ears: how an ear is taken out of a tree and put back, and a join tree exactly where one edge stays
+-- trees and ears: how an ear is taken out of a tree and put back, and a join tree exactly where one edge
+-- stays
 mod Trees
 mod Acyclic
 -- the search for the next ear, and the loop round it
 mod Searches
 mod UnderWay
--- what the order of the classes holds
-mod ClassOrders
+-- for the crates above: what the order of the classes holds
+pub mod ClassOrders

@@ -1,5 +1,6 @@
 -- Lists of numbers as sets: members, members but one, and rising lists.
-use Rattle.std.proofs.Common.{◌≡◌, ◌≢◌, ℕ, zero, suc, ◌<◌, ◌⊎◌, not, eqb, List, [], ◌∷◌, length, get_or, refl, sym, ap, ◌∙◌, subst, inl, inr, arith, eq-eqb, ne_eqb}
+use Rattle.std.proofs.Common.{◌≡◌, ◌≢◌, ℕ, zero, suc, ◌<◌, ◌⊎◌, not, eqb, List, [], ◌∷◌, length, get_or, refl}
+use Rattle.std.proofs.Common.{sym, ap, ◌∙◌, subst, inl, inr, arith, eq-eqb, ne_eqb}
 use Rattle.std.specs.List.{Contains, AllPairs, range_with_len, remove}
 use Rattle.std.proofs.lemmas.List.FromFn.{length-range_with_len, get_or-range_with_len}
 use Rattle.std.proofs.lemmas.List.Kept.{AllPairs-filter}
@@ -51,13 +52,16 @@ without_here e x xs s = rw (eq-eqb x e s)
 without_other : (e x : ℕ) (xs : List ℕ) → x ≢ e → without e (x ∷ xs) ≡ x ∷ without e xs
 without_other e x xs n = rw (ne_eqb x e n)
 
-without_contains_cons : (e x : ℕ) (xs : List ℕ) (g : ℕ) → g ≢ e → (x ≡ e) ⊎ (x ≢ e) → (g ≡ x) ⊎ Contains xs g → (Contains xs g → Contains (without e xs) g) → Contains (without e (x ∷ xs)) g
+without_contains_cons : (e x : ℕ) (xs : List ℕ) (g : ℕ) → g ≢ e → (x ≡ e) ⊎ (x ≢ e) →
+    (g ≡ x) ⊎ Contains xs g → (Contains xs g → Contains (without e xs) g) → Contains (without e (x ∷ xs)) g
 without_contains_cons e x xs g n (inl s) (inl q) next = absurd (n (q ∙ s))
 without_contains_cons e x xs g n (inl s) (inr k) next = rw (without_here e x xs s) (next k)
 without_contains_cons e x xs g n (inr d) (inl q) next = rw (without_other e x xs d, q) (here x (without e xs))
-without_contains_cons e x xs g n (inr d) (inr k) next = rw (without_other e x xs d) (there x g (without e xs) (next k))
+without_contains_cons e x xs g n (inr d) (inr k) next = rw (without_other e x xs d)
+    (there x g (without e xs) (next k))
 
-within_without_cons : (e x : ℕ) (xs : List ℕ) (g : ℕ) → (x ≡ e) ⊎ (x ≢ e) → Contains (without e (x ∷ xs)) g → (Contains (without e xs) g → Contains xs g × (g ≢ e)) → Contains (x ∷ xs) g × (g ≢ e)
+within_without_cons : (e x : ℕ) (xs : List ℕ) (g : ℕ) → (x ≡ e) ⊎ (x ≢ e) → Contains (without e (x ∷ xs)) g →
+    (Contains (without e xs) g → Contains xs g × (g ≢ e)) → Contains (x ∷ xs) g × (g ≢ e)
 within_without_cons e x xs g (inl s) h next =
     let k = next (rw (without_here e x xs s) at h) in
     (there x g xs k.0, k.1)
@@ -69,13 +73,15 @@ within_without_cons e x xs g (inr d) h next =
 
 pub without_contains : (e : ℕ) (xs : List ℕ) (g : ℕ) → Contains xs g → g ≢ e → Contains (without e xs) g
 without_contains e [] g h n = absurd (not_in_nil g h)
-without_contains e (x ∷ xs) g h n = without_contains_cons e x xs g n (same_or_not x e) (cons_cases x xs g h) (λ k. without_contains e xs g k n)
+without_contains e (x ∷ xs) g h n = without_contains_cons e x xs g n (same_or_not x e) (cons_cases x xs g h)
+    (λ k. without_contains e xs g k n)
 
 pub within_without : (e : ℕ) (xs : List ℕ) (g : ℕ) → Contains (without e xs) g → Contains xs g × (g ≢ e)
 within_without e [] g h = absurd (not_in_nil g h)
 within_without e (x ∷ xs) g h = within_without_cons e x xs g (same_or_not x e) h (within_without e xs g)
 
-pub without_rises : (e : ℕ) (xs : List ℕ) → AllPairs (λ a b. a < b) xs → AllPairs (λ a b. a < b) (without e xs)
+pub without_rises : (e : ℕ) (xs : List ℕ) → AllPairs (λ a b. a < b) xs →
+    AllPairs (λ a b. a < b) (without e xs)
 without_rises e xs r = AllPairs-filter (λ a b. a < b) (λ g. not (eqb g e)) xs r
 
 -- ---- rising lists
@@ -90,13 +96,16 @@ rises_head x xs r g (k, h, s) = let low = r 0 (suc k) g (omega arith) (omega ari
 pub without_absent : (e : ℕ) (xs : List ℕ) → (Contains xs e → ⊥) → without e xs ≡ xs
 without_absent e [] n = refl
 without_absent e (x ∷ xs) n =
-    without_other e x xs (λ s. n (subst (Contains (x ∷ xs)) s (here x xs))) ∙ ap (λ ys. x ∷ ys) (without_absent e xs (λ h. n (there x e xs h)))
+    without_other e x xs (λ s. n (subst (Contains (x ∷ xs)) s (here x xs))) ∙
+    ap (λ ys. x ∷ ys) (without_absent e xs (λ h. n (there x e xs h)))
 
 -- a rising list without the member at a place
-pub remove_is_without : (xs : List ℕ) (i d : ℕ) → AllPairs (λ a b. a < b) xs → i < length xs → remove xs i ≡ without (get_or xs i d) xs
+pub remove_is_without : (xs : List ℕ) (i d : ℕ) → AllPairs (λ a b. a < b) xs → i < length xs →
+    remove xs i ≡ without (get_or xs i d) xs
 remove_is_without [] i d r h = absurd (omega arith)
 remove_is_without (x ∷ xs) zero d r h =
     sym (without_here x x xs refl ∙ without_absent x xs (λ k. let low = rises_head x xs r x k in omega arith))
 remove_is_without (x ∷ xs) (suc i) d r h =
     let low = rises_head x xs r (get_or xs i d) (Contains-get_or xs i d (omega arith)) in
-    ap (λ ys. x ∷ ys) (remove_is_without xs i d (rises_tail x xs r) (omega arith)) ∙ sym (without_other (get_or xs i d) x xs (omega arith))
+    ap (λ ys. x ∷ ys) (remove_is_without xs i d (rises_tail x xs r) (omega arith)) ∙
+    sym (without_other (get_or xs i d) x xs (omega arith))

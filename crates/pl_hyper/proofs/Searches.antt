@@ -1,5 +1,6 @@
 -- The search for the next ear: the classes that are shared, the parents of an edge, and where no ear stands.
-use Rattle.std.proofs.Common.{◌≡◌, ◌≢◌, ℕ, ◌+◌, ◌<◌, ◌≤◌, ◌⊎◌, ◌↔◌, List, length, get_or, sym, ap, ◌∙◌, subst, inl, inr, arith}
+use Rattle.std.proofs.Common.{◌≡◌, ◌≢◌, ℕ, ◌+◌, ◌<◌, ◌≤◌, ◌⊎◌, ◌↔◌, List, length, get_or, sym, ap, ◌∙◌, subst}
+use Rattle.std.proofs.Common.{inl, inr, arith}
 use Rattle.std.specs.Prelude.{bit_and, bit_or, slice_index}
 use Rattle.std.specs.Int.{bit_at}
 use Rattle.std.specs.List.{Contains, AllPairs}
@@ -44,43 +45,89 @@ seen_none edges remaining = record {
   twice_is = λ c. (λ h. absurd (no_bit c h), λ s. absurd (omega (arith, s.before)));
 }
 
-seen_more_once : (edges remaining : List ℕ) (n class : ℕ) → Seen edges remaining n class ⊎ Holds edges (get_or remaining n 0) class → Seen edges remaining (n + 1) class
-seen_more_once edges remaining n class (inl s) = let low = s.before in record { place = s.place; before = omega arith; holds = s.holds }
+seen_more_once : (edges remaining : List ℕ) (n class : ℕ) → Seen edges remaining n class ⊎
+    Holds edges (get_or remaining n 0) class → Seen edges remaining (n + 1) class
+seen_more_once edges remaining n class (inl s) = let low = s.before in
+    record { place = s.place; before = omega arith; holds = s.holds }
 seen_more_once edges remaining n class (inr h) = record { place = n; before = omega arith; holds = h }
 
-seen_less_once : (edges remaining : List ℕ) (n class : ℕ) → (s : Seen edges remaining (n + 1) class) → (s.place ≡ n) ⊎ (s.place ≢ n) → Seen edges remaining n class ⊎ Holds edges (get_or remaining n 0) class
-seen_less_once edges remaining n class s (inl e) = inr (subst (λ k. Holds edges (get_or remaining k 0) class) e s.holds)
-seen_less_once edges remaining n class s (inr d) = let low = s.before in inl (record { place = s.place; before = omega arith; holds = s.holds })
+seen_less_once : (edges remaining : List ℕ) (n class : ℕ) → (s : Seen edges remaining (n + 1) class) →
+    (s.place ≡ n) ⊎ (s.place ≢ n) → Seen edges remaining n class ⊎ Holds edges (get_or remaining n 0) class
+seen_less_once edges remaining n class s (inl e) =
+    inr (subst (λ k. Holds edges (get_or remaining k 0) class) e s.holds)
+seen_less_once edges remaining n class s (inr d) = let low = s.before in
+    inl (record { place = s.place; before = omega arith; holds = s.holds })
 
-seen_more_twice : (edges remaining : List ℕ) (n class : ℕ) → SeenTwice edges remaining n class ⊎ (Seen edges remaining n class × Holds edges (get_or remaining n 0) class) → SeenTwice edges remaining (n + 1) class
+seen_more_twice : (edges remaining : List ℕ) (n class : ℕ) → SeenTwice edges remaining n class ⊎
+    (Seen edges remaining n class × Holds edges (get_or remaining n 0) class) →
+    SeenTwice edges remaining (n + 1) class
 seen_more_twice edges remaining n class (inl s) =
     let low = s.before in
-    record { place = s.place; later = s.later; in_order = s.in_order; before = omega arith; holds = s.holds; later_holds = s.later_holds }
+    record {
+      place = s.place;
+      later = s.later;
+      in_order = s.in_order;
+      before = omega arith;
+      holds = s.holds;
+      later_holds = s.later_holds;
+    }
 seen_more_twice edges remaining n class (inr (s, h)) =
-    record { place = s.place; later = n; in_order = s.before; before = omega arith; holds = s.holds; later_holds = h }
+    record {
+      place = s.place;
+      later = n;
+      in_order = s.before;
+      before = omega arith;
+      holds = s.holds;
+      later_holds = h;
+    }
 
-seen_less_twice : (edges remaining : List ℕ) (n class : ℕ) → (s : SeenTwice edges remaining (n + 1) class) → (s.later ≡ n) ⊎ (s.later ≢ n) → SeenTwice edges remaining n class ⊎ (Seen edges remaining n class × Holds edges (get_or remaining n 0) class)
+seen_less_twice : (edges remaining : List ℕ) (n class : ℕ) → (s : SeenTwice edges remaining (n + 1) class) →
+    (s.later ≡ n) ⊎ (s.later ≢ n) → SeenTwice edges remaining n class ⊎
+    (Seen edges remaining n class × Holds edges (get_or remaining n 0) class)
 seen_less_twice edges remaining n class s (inl e) =
     let low = s.in_order in
-    inr (record { place = s.place; before = omega arith; holds = s.holds }, subst (λ k. Holds edges (get_or remaining k 0) class) e s.later_holds)
+    inr (
+      record { place = s.place; before = omega arith; holds = s.holds },
+      subst (λ k. Holds edges (get_or remaining k 0) class) e s.later_holds,
+    )
 seen_less_twice edges remaining n class s (inr d) =
     let low = s.before in
-    inl (record { place = s.place; later = s.later; in_order = s.in_order; before = omega arith; holds = s.holds; later_holds = s.later_holds })
+    inl (record {
+      place = s.place;
+      later = s.later;
+      in_order = s.in_order;
+      before = omega arith;
+      holds = s.holds;
+      later_holds = s.later_holds;
+    })
 
 -- one edge more, whose classes are given
-pub seen_more : (edges remaining : List ℕ) (n once twice classes : ℕ) → AreSeen edges remaining n once twice → classes ≡ slice_index edges (get_or remaining n 0) → AreSeen edges remaining (n + 1) (bit_or once classes) (bit_or twice (bit_and once classes))
+pub seen_more : (edges remaining : List ℕ) (n once twice classes : ℕ) → AreSeen edges remaining n once twice →
+    classes ≡ slice_index edges (get_or remaining n 0) →
+    AreSeen edges remaining (n + 1) (bit_or once classes) (bit_or twice (bit_and once classes))
 seen_more edges remaining n once twice classes a e = record {
   once_is = λ c. (
-    λ h. seen_more_once edges remaining n c (either (λ k. (a.once_is c).0 k) (λ k. subst (λ x. bit_at x c ≡ 1) e k) ((or_bit once classes c).0 h)),
-    λ s. (or_bit once classes c).1 (either (λ k. (a.once_is c).1 k) (λ k. subst (λ x. bit_at x c ≡ 1) (sym e) k) (seen_less_once edges remaining n c s (same_or_not s.place n))),
+    λ h. seen_more_once edges remaining n c
+        (either (λ k. (a.once_is c).0 k) (λ k. subst (λ x. bit_at x c ≡ 1) e k)
+        ((or_bit once classes c).0 h)),
+    λ s. (or_bit once classes c).1 (either (λ k. (a.once_is c).1 k)
+        (λ k. subst (λ x. bit_at x c ≡ 1) (sym e) k)
+        (seen_less_once edges remaining n c s (same_or_not s.place n))),
   );
   twice_is = λ c. (
-    λ h. seen_more_twice edges remaining n c (either (λ k. (a.twice_is c).0 k) (λ k. let both = (and_bit once classes c).0 k in ((a.once_is c).0 both.0, subst (λ x. bit_at x c ≡ 1) e both.1)) ((or_bit twice (bit_and once classes) c).0 h)),
-    λ s. (or_bit twice (bit_and once classes) c).1 (either (λ k. (a.twice_is c).1 k) (λ k. (and_bit once classes c).1 ((a.once_is c).1 k.0, subst (λ x. bit_at x c ≡ 1) (sym e) k.1)) (seen_less_twice edges remaining n c s (same_or_not s.later n))),
+    λ h. seen_more_twice edges remaining n c
+        (either (λ k. (a.twice_is c).0 k) (λ k. let both = (and_bit once classes c).0 k in
+        ((a.once_is c).0 both.0, subst (λ x. bit_at x c ≡ 1) e both.1))
+        ((or_bit twice (bit_and once classes) c).0 h)),
+    λ s. (or_bit twice (bit_and once classes) c).1
+        (either (λ k. (a.twice_is c).1 k) (λ k. (and_bit once classes c).1
+        ((a.once_is c).1 k.0, subst (λ x. bit_at x c ≡ 1) (sym e) k.1))
+        (seen_less_twice edges remaining n c s (same_or_not s.later n))),
   );
 }
 
-shared_from_seen : (edges remaining : List ℕ) (class : ℕ) → AllPairs (λ e f. e < f) remaining → SeenTwice edges remaining (length remaining) class → IsShared edges remaining class
+shared_from_seen : (edges remaining : List ℕ) (class : ℕ) → AllPairs (λ e f. e < f) remaining →
+    SeenTwice edges remaining (length remaining) class → IsShared edges remaining class
 shared_from_seen edges remaining class up s =
     let low = up s.place s.later 0 s.in_order s.before in
     let first : s.place < length remaining = omega (arith, s.in_order, s.before) in
@@ -94,10 +141,15 @@ shared_from_seen edges remaining class up s =
       other_holds = s.later_holds;
     }
 
-seen_at : (edges remaining : List ℕ) (class e : ℕ) (h : Contains remaining e) → Holds edges e class → Holds edges (get_or remaining h.0 0) class
-seen_at edges remaining class e h k = subst (λ x. Holds edges x class) (sym (get_or_default remaining h.0 0 e h.1 ∙ h.2)) k
+seen_at : (edges remaining : List ℕ) (class e : ℕ) (h : Contains remaining e) → Holds edges e class →
+    Holds edges (get_or remaining h.0 0) class
+seen_at edges remaining class e h k = subst (λ x. Holds edges x class)
+    (sym (get_or_default remaining h.0 0 e h.1 ∙ h.2)) k
 
-seen_from_shared : (edges remaining : List ℕ) (class : ℕ) (s : IsShared edges remaining class) → (s.one_remains.0 < s.other_remains.0) ⊎ ((s.one_remains.0 ≡ s.other_remains.0) ⊎ (s.other_remains.0 < s.one_remains.0)) → SeenTwice edges remaining (length remaining) class
+seen_from_shared : (edges remaining : List ℕ) (class : ℕ) (s : IsShared edges remaining class) →
+    (s.one_remains.0 < s.other_remains.0) ⊎
+    ((s.one_remains.0 ≡ s.other_remains.0) ⊎ (s.other_remains.0 < s.one_remains.0)) →
+    SeenTwice edges remaining (length remaining) class
 seen_from_shared edges remaining class s (inl low) = record {
   place = s.one_remains.0;
   later = s.other_remains.0;
@@ -119,27 +171,47 @@ seen_from_shared edges remaining class s (inr (inl e)) =
     let other = get_or_default remaining s.other_remains.0 0 s.other s.other_remains.1 ∙ s.other_remains.2 in
     absurd (s.apart (sym one ∙ ap (λ k. get_or remaining k 0) e ∙ other))
 
-pub seen_all : (edges remaining : List ℕ) (once twice : ℕ) → AllPairs (λ e f. e < f) remaining → AreSeen edges remaining (length remaining) once twice → AreShared edges remaining twice
-seen_all edges remaining once twice up a c =
-    (λ h. shared_from_seen edges remaining c up ((a.twice_is c).0 h), λ s. (a.twice_is c).1 (seen_from_shared edges remaining c s (in_order s.one_remains.0 s.other_remains.0)))
+pub seen_all : (edges remaining : List ℕ) (once twice : ℕ) → AllPairs (λ e f. e < f) remaining →
+    AreSeen edges remaining (length remaining) once twice → AreShared edges remaining twice
+seen_all edges remaining once twice up a c = (
+  λ h. shared_from_seen edges remaining c up ((a.twice_is c).0 h),
+  λ s. (a.twice_is c).1
+      (seen_from_shared edges remaining c s (in_order s.one_remains.0 s.other_remains.0)),
+)
 
 -- ---- parents
 
 -- what serves the classes that an edge shares serves the edge
-pub ear_from_parent : (edges remaining : List ℕ) (shared e f : ℕ) → AreShared edges remaining shared → Contains remaining e → IsParent edges remaining e (bit_and (slice_index edges e) shared) f → IsEar edges remaining e f
+pub ear_from_parent : (edges remaining : List ℕ) (shared e f : ℕ) → AreShared edges remaining shared →
+    Contains remaining e → IsParent edges remaining e (bit_and (slice_index edges e) shared) f →
+    IsEar edges remaining e f
 ear_from_parent edges remaining shared e f a h s = record {
   edge_remains = h;
   parent_remains = s.remains;
   apart = s.apart;
   serves = λ c g k d holds also.
-      s.serves c ((and_bit (slice_index edges e) shared c).1 (holds, (a c).1 (record { one = e; other = g; apart = λ q. d (sym q); one_remains = h; other_remains = k; one_holds = holds; other_holds = also })));
+      s.serves c ((and_bit (slice_index edges e) shared c).1 (
+        holds,
+        (a c).1 (record {
+          one = e;
+          other = g;
+          apart = λ q. d (sym q);
+          one_remains = h;
+          other_remains = k;
+          one_holds = holds;
+          other_holds = also;
+        }),
+      ));
 }
 
-shared_with : (edges remaining : List ℕ) (e f c : ℕ) → IsEar edges remaining e f → (s : IsShared edges remaining c) → Holds edges e c → (s.one ≡ e) ⊎ (s.one ≢ e) → Holds edges f c
-shared_with edges remaining e f c ear s h (inl q) = ear.serves c s.other s.other_remains (λ k. s.apart (q ∙ sym k)) h s.other_holds
+shared_with : (edges remaining : List ℕ) (e f c : ℕ) → IsEar edges remaining e f →
+    (s : IsShared edges remaining c) → Holds edges e c → (s.one ≡ e) ⊎ (s.one ≢ e) → Holds edges f c
+shared_with edges remaining e f c ear s h (inl q) = ear.serves c s.other s.other_remains
+    (λ k. s.apart (q ∙ sym k)) h s.other_holds
 shared_with edges remaining e f c ear s h (inr d) = ear.serves c s.one s.one_remains d h s.one_holds
 
-pub parent_from_ear : (edges remaining : List ℕ) (shared e f : ℕ) → AreShared edges remaining shared → IsEar edges remaining e f → IsParent edges remaining e (bit_and (slice_index edges e) shared) f
+pub parent_from_ear : (edges remaining : List ℕ) (shared e f : ℕ) → AreShared edges remaining shared →
+    IsEar edges remaining e f → IsParent edges remaining e (bit_and (slice_index edges e) shared) f
 parent_from_ear edges remaining shared e f a ear = record {
   remains = ear.parent_remains;
   apart = ear.apart;
@@ -152,10 +224,13 @@ parent_from_ear edges remaining shared e f a ear = record {
 -- ---- where no ear stands
 
 -- an edge that is an ear after another was removed was one before, if the shared classes are the same
-pub ear_before : (edges remaining : List ℕ) (gone shared e f : ℕ) → AreShared edges remaining shared → AreShared edges (without gone remaining) shared → IsEar edges (without gone remaining) e f → IsEar edges remaining e f
+pub ear_before : (edges remaining : List ℕ) (gone shared e f : ℕ) → AreShared edges remaining shared →
+    AreShared edges (without gone remaining) shared → IsEar edges (without gone remaining) e f →
+    IsEar edges remaining e f
 ear_before edges remaining gone shared e f a b ear =
     let parent = parent_from_ear edges (without gone remaining) shared e f b ear in
-    ear_from_parent edges remaining shared e f a (within_without gone remaining e ear.edge_remains).0 (record {
+    ear_from_parent edges remaining shared e f a (within_without gone remaining e ear.edge_remains).0
+    (record {
       remains = (within_without gone remaining f parent.remains).0;
       apart = parent.apart;
       serves = parent.serves;
@@ -163,17 +238,28 @@ ear_before edges remaining gone shared e f a b ear =
 
 -- ---- the first ear from a place on
 
-pub IsEarAt-parent : (edges remaining : List ℕ) (from place shared f : ℕ) → AreShared edges remaining shared → place < length remaining → IsFirstParent edges remaining (get_or remaining place 0) (bit_and (slice_index edges (get_or remaining place 0)) shared) f → ((k g : ℕ) → from ≤ k → k < place → IsEar edges remaining (get_or remaining k 0) g → ⊥) → IsEarAt edges remaining from place f
+pub IsEarAt-parent : (edges remaining : List ℕ) (from place shared f : ℕ) → AreShared edges remaining shared →
+    place < length remaining → IsFirstParent edges remaining (get_or remaining place 0)
+    (bit_and (slice_index edges (get_or remaining place 0)) shared) f →
+    ((k g : ℕ) → from ≤ k → k < place → IsEar edges remaining (get_or remaining k 0) g → ⊥) →
+    IsEarAt edges remaining from place f
 IsEarAt-parent edges remaining from place shared f a h s none = record {
   within = h;
-  is_ear = ear_from_parent edges remaining shared (get_or remaining place 0) f a (Contains-get_or remaining place 0 h) s.is_parent;
-  least_parent = λ g ear. s.least g (parent_from_ear edges remaining shared (get_or remaining place 0) g a ear);
+  is_ear = ear_from_parent edges remaining shared (get_or remaining place 0) f a
+      (Contains-get_or remaining place 0 h) s.is_parent;
+  least_parent = λ g ear. s.least g (parent_from_ear edges remaining shared
+      (get_or remaining place 0) g a ear);
   none_before = none;
 }
 
-pub none_more : (edges remaining : List ℕ) (from place shared : ℕ) → AreShared edges remaining shared → ((f : ℕ) → IsParent edges remaining (get_or remaining place 0) (bit_and (slice_index edges (get_or remaining place 0)) shared) f → ⊥) → ((k g : ℕ) → from ≤ k → k < place → IsEar edges remaining (get_or remaining k 0) g → ⊥) → (k g : ℕ) → from ≤ k → k < place + 1 → IsEar edges remaining (get_or remaining k 0) g → ⊥
+pub none_more : (edges remaining : List ℕ) (from place shared : ℕ) → AreShared edges remaining shared →
+    ((f : ℕ) → IsParent edges remaining (get_or remaining place 0)
+    (bit_and (slice_index edges (get_or remaining place 0)) shared) f → ⊥) →
+    ((k g : ℕ) → from ≤ k → k < place → IsEar edges remaining (get_or remaining k 0) g → ⊥) → (k g : ℕ) →
+    from ≤ k → k < place + 1 → IsEar edges remaining (get_or remaining k 0) g → ⊥
 none_more edges remaining from place shared a none before k g low h ear =
     elim (same_or_not k place) [
-      | inl e ↦ none g (parent_from_ear edges remaining shared (get_or remaining place 0) g a (subst (λ j. IsEar edges remaining (get_or remaining j 0) g) e ear))
+      | inl e ↦ none g (parent_from_ear edges remaining shared (get_or remaining place 0) g a
+          (subst (λ j. IsEar edges remaining (get_or remaining j 0) g) e ear))
       | inr d ↦ before k g low (omega arith) ear
     ]

@@ -1,5 +1,6 @@
 -- The removal of ears from a hypergraph (Graham; Yu and Ozsoyoglu). Sets of edges are lists of edge numbers.
-use Rattle.std.specs.Prelude.{◌≡◌, ◌≢◌, ◌≤◌, ◌<◌, ◌==◌, ◌++◌, ℕ, suc, List, [], ◌∷◌, length, map, drop, not, if◌then◌else◌, slice_index_or, Contains, All, AllPairs}
+use Rattle.std.specs.Prelude.{◌≡◌, ◌≢◌, ◌≤◌, ◌<◌, ◌==◌, ◌++◌, ℕ, suc, List, [], ◌∷◌, length, map, drop, not}
+use Rattle.std.specs.Prelude.{if◌then◌else◌, slice_index_or, Contains, All, AllPairs}
 use Rattle.std.specs.List.{filter}
 use Rattle.pl_hyper.specs.Edges.{Holds, edge_numbers}
 use Rattle.pl_hyper.specs.declared.ear.Ear.{Ear}
@@ -10,9 +11,11 @@ pub record IsEar (edges remaining : List ℕ) (edge parent : ℕ) : Type 0 where
   pub edge_remains : Contains remaining edge
   pub parent_remains : Contains remaining parent
   pub apart : edge ≢ parent
-  pub serves : (class other : ℕ) → Contains remaining other → other ≢ edge → Holds edges edge class → Holds edges other class → Holds edges parent class
+  pub serves : (class other : ℕ) → Contains remaining other → other ≢ edge → Holds edges edge class →
+      Holds edges other class → Holds edges parent class
 
--- the ear that is taken is the least-numbered edge that is one, and its parent is the least-numbered one that serves it
+-- the ear that is taken is the least-numbered edge that is one, and its parent is the least-numbered one that
+-- serves it
 pub record IsFirstEar (edges remaining : List ℕ) (edge parent : ℕ) : Type 0 where
   pub is_ear : IsEar edges remaining edge parent
   pub least_edge : (e f : ℕ) → IsEar edges remaining e f → edge ≤ e
@@ -22,17 +25,20 @@ pub record IsFirstEar (edges remaining : List ℕ) (edge parent : ℕ) : Type 0 
 abbrev pub without : ℕ → List ℕ → List ℕ
 without edge remaining = filter (λ e. not (e == edge)) remaining
 
--- from the remaining edges the ears are removed one after another, each the first one of those that remain, and then the edges `left` remain
+-- from the remaining edges the ears are removed one after another, each the first one of those that remain,
+-- and then the edges `left` remain
 abbrev pub Removes : List ℕ → List ℕ → List Ear → List ℕ → Type 0
 Removes edges remaining [] left = left ≡ remaining
-Removes edges remaining (ear ∷ ears) left = IsFirstEar edges remaining ear.edge ear.parent × Removes edges (without ear.edge remaining) ears left
+Removes edges remaining (ear ∷ ears) left = IsFirstEar edges remaining ear.edge ear.parent ×
+    Removes edges (without ear.edge remaining) ears left
 
 -- the parent that an edge got when it was removed, and the edge itself where it was not
 abbrev pub parent_of : List Ear → ℕ → ℕ
 parent_of [] edge = edge
 parent_of (ear ∷ ears) edge = if edge == ear.edge then ear.parent else parent_of ears edge
 
--- what the removal of ears makes of a hypergraph: the removed ears in the order of their removal, and the core, the edges that stay
+-- what the removal of ears makes of a hypergraph: the removed ears in the order of their removal, and the
+-- core, the edges that stay
 pub record Removal : Type 0 where
   pub edges : List ℕ
   pub removed : List Ear
@@ -67,6 +73,9 @@ pub record IsWalkable (plan : Removal) : Type 0 where
   -- the parent of an ear is another edge, which is still there when the ear is removed
   pub parents_are_edges : All (λ ear. ear.parent < length plan.edges) plan.removed
   pub parents_differ : All (λ ear. ear.edge ≢ ear.parent) plan.removed
-  pub parent_stays : (i : ℕ) (d : Ear) → i < length plan.removed → Contains (staying plan i) (ear_at plan i d).parent
+  pub parent_stays : (i : ℕ) (d : Ear) → i < length plan.removed →
+      Contains (staying plan i) (ear_at plan i d).parent
   -- each class that an ear shares with an edge that is still there is held by the parent
-  pub parent_holds : (i : ℕ) (d : Ear) (class other : ℕ) → i < length plan.removed → Contains (staying plan i) other → Holds plan.edges (ear_at plan i d).edge class → Holds plan.edges other class → Holds plan.edges (ear_at plan i d).parent class
+  pub parent_holds : (i : ℕ) (d : Ear) (class other : ℕ) → i < length plan.removed →
+      Contains (staying plan i) other → Holds plan.edges (ear_at plan i d).edge class →
+      Holds plan.edges other class → Holds plan.edges (ear_at plan i d).parent class

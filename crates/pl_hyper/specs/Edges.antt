@@ -1,4 +1,5 @@
--- A hypergraph as a list of edges. An edge is a set of classes, and bit `c` of its number says whether it holds class `c`.
+-- A hypergraph as a list of edges. An edge is a set of classes, and bit `c` of its number says whether it
+-- holds class `c`.
 use Rattle.std.specs.Prelude.{◌≡◌, ℕ, List, length, slice_index}
 use Rattle.std.specs.Int.{bit_at}
 use Rattle.std.specs.List.{range_with_len}

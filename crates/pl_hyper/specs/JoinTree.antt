@@ -1,4 +1,5 @@
--- Join trees, and the acyclic hypergraphs, which are those that have one (Beeri, Fagin, Maier and Yannakakis 1983).
+-- Join trees, and the acyclic hypergraphs, which are those that have one (Beeri, Fagin, Maier and Yannakakis
+-- 1983).
 use Rattle.std.specs.Prelude.{◌≡◌, ◌≢◌, ◌<◌, ◌⊎◌, ℕ, zero, suc, List, [], length}
 use Rattle.pl_hyper.specs.Edges.{Holds}
 
@@ -7,7 +8,8 @@ abbrev pub ancestor : (ℕ → ℕ) → ℕ → ℕ → ℕ
 ancestor parent zero edge = edge
 ancestor parent (suc steps) edge = ancestor parent steps (parent edge)
 
--- a tree over the edges: a root, and a parent for each other edge, such that the parents lead every edge to the root
+-- a tree over the edges: a root, and a parent for each other edge, such that the parents lead every edge to
+-- the root
 pub record IsTree (edges : List ℕ) (root : ℕ) (parent : ℕ → ℕ) : Type 0 where
   pub root_is_edge : root < length edges
   pub parent_is_edge : (e : ℕ) → e < length edges → e ≢ root → parent e < length edges
@@ -21,7 +23,8 @@ pub record IsTop (edges : List ℕ) (root : ℕ) (parent : ℕ → ℕ) (class e
 
 -- the edges that hold the class are connected in the tree: at most one of them has no parent among them
 abbrev pub IsConnected : List ℕ → ℕ → (ℕ → ℕ) → ℕ → Type 0
-IsConnected edges root parent class = (e f : ℕ) → IsTop edges root parent class e → IsTop edges root parent class f → e ≡ f
+IsConnected edges root parent class = (e f : ℕ) → IsTop edges root parent class e →
+    IsTop edges root parent class f → e ≡ f
 
 -- a tree in which the edges of each class are connected
 pub record IsJoinTree (edges : List ℕ) (root : ℕ) (parent : ℕ → ℕ) : Type 0 where

@@ -57,8 +57,8 @@ impl EarPlan {
 
     /// The removed ears in the order of their removal.
     ///
-    /// `IsWalkable` has what a walk over them rests on, in this order or back: the parent of an ear is removed later or
-    /// stays, and holds each class that the ear shares with an edge that was left.
+    /// `IsWalkable` has what a walk over them rests on, in this order or back: the parent of an ear is
+    /// removed later or stays, and holds each class that the ear shares with an edge that was left.
     pub fn removed(&self) -> &[Ear]
         ensures removed { result.now ≡ self.now.removed }
         ensures removal { IsRemoval self.now }
@@ -69,7 +69,8 @@ impl EarPlan {
 
     /// The numbers of the edges that stayed, rising.
     ///
-    /// It is empty only where there are no edges, and has one edge at most exactly where the hypergraph is acyclic.
+    /// It is empty only where there are no edges, and has one edge at most exactly where the hypergraph is
+    /// acyclic.
     pub fn core(&self) -> &[u32]
         ensures core { result.now ≡ self.now.core }
         ensures removal { IsRemoval self.now }

@@ -10,14 +10,16 @@ use crate::plan::EarPlan;
 use crate::search::{first_ear, shared_classes};
 use std::alloc::{AllocError, Global};
 
-/// Removes the ears of a hypergraph, always the least-numbered one with its least-numbered parent, until none is left.
+/// Removes the ears of a hypergraph, always the least-numbered one with its least-numbered parent, until none
+/// is left.
 ///
-/// An edge is a set of classes, with bit `c` for class `c`. It is an ear where another edge holds every class that it
-/// shares with the rest, so equal edges are ears of each other, and an edge that shares nothing is an ear of any other.
-/// This is the reduction of Graham (1979) and of Yu and Ozsoyoglu (1979), with each choice fixed.
+/// An edge is a set of classes, with bit `c` for class `c`. It is an ear where another edge holds every class
+/// that it shares with the rest, so equal edges are ears of each other, and an edge that shares nothing is an
+/// ear of any other. This is the reduction of Graham (1979) and of Yu and Ozsoyoglu (1979), with each choice
+/// fixed.
 ///
-/// The time is quadratic in the number of edges: the edges before an ear are looked at again only where a class is no
-/// longer shared, and that comes once a class.
+/// The time is quadratic in the number of edges: the edges before an ear are looked at again only where a
+/// class is no longer shared, and that comes once a class.
 pub fn ears(alloc: Global, edges: &[u64]) -> Result<EarPlan, AllocError>
     requires { length edges.now < 2 ^ 32 }
     ensures edges { IfOk result (λ plan. plan.edges ≡ edges.now) }

@@ -45,7 +45,8 @@ fn is_within(classes: u64, edge: u64) -> bool
     classes & edge == classes
 }
 
-/// The place among the remaining edges, from `from` on, of the first one that is an ear, and its first parent.
+/// The place among the remaining edges, from `from` on, of the first one that is an ear, and its first
+/// parent.
 ///
 /// `shared` are the classes that at least two remaining edges hold.
 pub fn first_ear(edges: &[u64], remaining: &[u32], from: usize, shared: u64) -> Option<(usize, u32)>

@@ -22,7 +22,8 @@ const ROOM: u64 = 2;
 
 const GRIPPER: u64 = 4;
 
-/// A hypergraph, and what its plan has to be: pairs of an ear and its parent, the core, and the order of the classes.
+/// A hypergraph, and what its plan has to be: pairs of an ear and its parent, the core, and the order of the
+/// classes.
 #[derive(Clone, Copy)]
 struct Case<'a> {
     name: &'a str,

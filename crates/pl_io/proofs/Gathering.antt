@@ -1,5 +1,7 @@
 -- Bytes that are held back and sent on, one piece after the other.
-use Rattle.std.proofs.Common.{◌≡◌, ℕ, ◌+◌, ◌<◌, List, [], ◌++◌, length, take, drop, get_or, flat_map, sym, subst, ◌∙◌, ap, append_assoc, append-nil, take-append-drop, Result, Ok, Err, OnErr}
+use Rattle.std.proofs.Common.{◌≡◌, ℕ, ◌+◌, ◌<◌, List, [], ◌++◌, length, take, drop, get_or, flat_map, sym}
+use Rattle.std.proofs.Common.{subst, ◌∙◌, ap, append_assoc, append-nil, take-append-drop, Result, Ok, Err}
+use Rattle.std.proofs.Common.{OnErr}
 use Rattle.std.specs.Prelude.{Option}
 use Rattle.std.proofs.lemmas.Grind.{flat_map-append}
 use Rattle.std.proofs.lemmas.List.{take_more, drop_more, flat_map_more}
@@ -27,17 +29,20 @@ front_of_next old mid new first rest done h =
     (AppendsFront-append old mid new first rest [] done h)
 
 -- nothing was sent on
-pub sent_nothing : (old : Option (List ℕ)) (held bytes left : List ℕ) → left ≡ held ++ bytes → SendsOn old old held bytes left
+pub sent_nothing : (old : Option (List ℕ)) (held bytes left : List ℕ) → left ≡ held ++ bytes →
+    SendsOn old old held bytes left
 sent_nothing old held bytes left e = record { sent = []; put = Appends-nil old; rest = sym e }
 
 -- a piece in other words
-pub sent_same : (old new : Option (List ℕ)) (held bytes text left : List ℕ) → bytes ≡ text → SendsOn old new held bytes left
+pub sent_same : (old new : Option (List ℕ)) (held bytes text left : List ℕ) → bytes ≡ text →
+    SendsOn old new held bytes left
     → SendsOn old new held text left
 sent_same old new held bytes text left same h = subst (λ (l : List ℕ). SendsOn old new held l left) same h
 
 -- two pieces, one after the other
 pub sent_both : (old mid new : Option (List ℕ)) (held first after second left : List ℕ)
-    → SendsOn old mid held first after → SendsOn mid new after second left → SendsOn old new held (first ++ second) left
+    → SendsOn old mid held first after → SendsOn mid new after second left →
+    SendsOn old new held (first ++ second) left
 sent_both old mid new held first after second left a b =
     record {
       sent = a.sent ++ b.sent;
@@ -48,10 +53,12 @@ sent_both old mid new held first after second left a b =
     }
 
 -- a front of what was held back and a part of the piece
-pub front_of_taken : (old new : Option (List ℕ)) (held first rest : List ℕ) → AppendsFront old new (held ++ first)
+pub front_of_taken : (old new : Option (List ℕ)) (held first rest : List ℕ) →
+    AppendsFront old new (held ++ first)
     → AppendsFront old new (held ++ (first ++ rest))
 front_of_taken old new held first rest h =
-    subst (AppendsFront old new) (append_assoc held first rest) (front_of_first old new (held ++ first) rest h)
+    subst (AppendsFront old new) (append_assoc held first rest)
+    (front_of_first old new (held ++ first) rest h)
 
 -- a front of what was held back and the piece, in other words
 pub front_of_same : (old new : Option (List ℕ)) (held bytes text : List ℕ) → bytes ≡ text
@@ -59,21 +66,25 @@ pub front_of_same : (old new : Option (List ℕ)) (held bytes text : List ℕ) �
 front_of_same old new held bytes text same h = subst (λ (l : List ℕ). AppendsFront old new (held ++ l)) same h
 
 -- a piece, and then a front of what was held back and the rest
-pub front_after : (old mid new : Option (List ℕ)) (held first after rest : List ℕ) → SendsOn old mid held first after
+pub front_after : (old mid new : Option (List ℕ)) (held first after rest : List ℕ) →
+    SendsOn old mid held first after
     → AppendsFront mid new (after ++ rest) → AppendsFront old new (held ++ (first ++ rest))
 front_after old mid new held first after rest a h =
     let whole : a.sent ++ (after ++ rest) ≡ held ++ (first ++ rest) =
-    sym (append_assoc a.sent after rest) ∙ ap (λ (l : List ℕ). l ++ rest) (sym a.rest) ∙ append_assoc held first rest in
+    sym (append_assoc a.sent after rest) ∙ ap (λ (l : List ℕ). l ++ rest) (sym a.rest) ∙
+    append_assoc held first rest in
     subst (AppendsFront old new) whole (front_of_next old mid new a.sent (after ++ rest) a.put h)
 
 -- a piece was taken, and then a front of what was held back was written
-pub front_at_end : (old mid new : Option (List ℕ)) (held bytes after : List ℕ) → SendsOn old mid held bytes after
+pub front_at_end : (old mid new : Option (List ℕ)) (held bytes after : List ℕ) →
+    SendsOn old mid held bytes after
     → AppendsFront mid new after → AppendsFront old new (held ++ bytes)
 front_at_end old mid new held bytes after a h =
     subst (AppendsFront old new) (sym a.rest) (front_of_next old mid new a.sent after a.put h)
 
 -- a piece was taken, and then all that was held back was written
-pub all_at_end : (old mid new : Option (List ℕ)) (held bytes after : List ℕ) → SendsOn old mid held bytes after
+pub all_at_end : (old mid new : Option (List ℕ)) (held bytes after : List ℕ) →
+    SendsOn old mid held bytes after
     → Appends mid new after → Appends old new (held ++ bytes)
 all_at_end old mid new held bytes after a h =
     subst (Appends old new) (sym a.rest) (Appends-trans old mid new a.sent after a.put h)
@@ -82,8 +93,10 @@ split : (held front rest bytes : List ℕ) → bytes ≡ front ++ rest → held 
 split held front rest bytes e = ap (λ (l : List ℕ). held ++ l) e ∙ sym (append_assoc held front rest)
 
 -- the block was filled by a front of the piece and written, and the rest of the piece is held back
-pub sent_block : (old new : Option (List ℕ)) (held block front rest bytes none left : List ℕ) → block ≡ held ++ front
-    → bytes ≡ front ++ rest → none ≡ [] → left ≡ none ++ rest → Appends old new block → SendsOn old new held bytes left
+pub sent_block : (old new : Option (List ℕ)) (held block front rest bytes none left : List ℕ) →
+    block ≡ held ++ front
+    → bytes ≡ front ++ rest → none ≡ [] → left ≡ none ++ rest → Appends old new block →
+    SendsOn old new held bytes left
 sent_block old new held block front rest bytes none left filled parts empty after h =
     record {
       sent = block;
@@ -93,8 +106,10 @@ sent_block old new held block front rest bytes none left filled parts empty afte
     }
 
 -- the block was filled and written, and then the rest of the piece was
-pub sent_all : (old mid new : Option (List ℕ)) (held block front rest bytes left : List ℕ) → block ≡ held ++ front
-    → bytes ≡ front ++ rest → left ≡ [] → Appends old mid block → Appends mid new rest → SendsOn old new held bytes left
+pub sent_all : (old mid new : Option (List ℕ)) (held block front rest bytes left : List ℕ) →
+    block ≡ held ++ front
+    → bytes ≡ front ++ rest → left ≡ [] → Appends old mid block → Appends mid new rest →
+    SendsOn old new held bytes left
 sent_all old mid new held block front rest bytes left filled parts empty h next =
     record {
       sent = block ++ rest;
@@ -104,33 +119,44 @@ sent_all old mid new held block front rest bytes left filled parts empty h next 
     }
 
 -- the block was filled, and a front of it was written
-pub front_of_block : (old new : Option (List ℕ)) (held block front rest bytes : List ℕ) → block ≡ held ++ front
+pub front_of_block : (old new : Option (List ℕ)) (held block front rest bytes : List ℕ) →
+    block ≡ held ++ front
     → bytes ≡ front ++ rest → AppendsFront old new block → AppendsFront old new (held ++ bytes)
 front_of_block old new held block front rest bytes filled parts h =
-    let whole : block ++ rest ≡ held ++ bytes = ap (λ (l : List ℕ). l ++ rest) filled ∙ sym (split held front rest bytes parts) in
+    let whole : block ++ rest ≡ held ++ bytes = ap (λ (l : List ℕ). l ++ rest) filled ∙
+    sym (split held front rest bytes parts) in
     subst (AppendsFront old new) whole (front_of_first old new block rest h)
 
 -- the block was filled and written, and then a front of the rest of the piece was
-pub front_past_block : (old mid new : Option (List ℕ)) (held block front rest bytes : List ℕ) → block ≡ held ++ front
-    → bytes ≡ front ++ rest → Appends old mid block → AppendsFront mid new rest → AppendsFront old new (held ++ bytes)
+pub front_past_block : (old mid new : Option (List ℕ)) (held block front rest bytes : List ℕ) →
+    block ≡ held ++ front
+    → bytes ≡ front ++ rest → Appends old mid block → AppendsFront mid new rest →
+    AppendsFront old new (held ++ bytes)
 front_past_block old mid new held block front rest bytes filled parts h next =
-    let whole : block ++ rest ≡ held ++ bytes = ap (λ (l : List ℕ). l ++ rest) filled ∙ sym (split held front rest bytes parts) in
+    let whole : block ++ rest ≡ held ++ bytes = ap (λ (l : List ℕ). l ++ rest) filled ∙
+    sym (split held front rest bytes parts) in
     subst (AppendsFront old new) whole (front_of_next old mid new block rest h next)
 
 -- the texts of the items before the one at i were taken, and then that one's
-pub sent_to_next : {X : Type 0} (old mid new : Option (List ℕ)) (text : X → List ℕ) (items : List X) (i : ℕ) (d : X)
+pub sent_to_next : {X : Type 0} (old mid new : Option (List ℕ)) (text : X →
+    List ℕ) (items : List X) (i : ℕ) (d : X)
     (held after left : List ℕ) → i < length items → SendsOn old mid held (flat_map text (take i items)) after
-    → SendsOn mid new after (text (get_or items i d)) left → SendsOn old new held (flat_map text (take (i + 1) items)) left
+    → SendsOn mid new after (text (get_or items i d)) left →
+    SendsOn old new held (flat_map text (take (i + 1) items)) left
 sent_to_next old mid new text items i d held after left h first second =
     let more : flat_map text (take i items) ++ text (get_or items i d) ≡ flat_map text (take (i + 1) items) =
     flat_map_more text [] (take i items) (get_or items i d)
     ∙ ap (flat_map text) (sym (take_more items i d h)) in
-    subst (λ (l : List ℕ). SendsOn old new held l left) more (sent_both old mid new held _ after _ left first second)
+    subst (λ (l : List ℕ). SendsOn old new held l left) more
+    (sent_both old mid new held _ after _ left first second)
 
--- the texts of the items before the one at i were taken, and then a front of what was held back and that one's was written
-pub front_past : {X : Type 0} (old mid new : Option (List ℕ)) (text : X → List ℕ) (items : List X) (i : ℕ) (d : X)
+-- the texts of the items before the one at i were taken, and then a front of what was held back and that
+-- one's was written
+pub front_past : {X : Type 0} (old mid new : Option (List ℕ)) (text : X →
+    List ℕ) (items : List X) (i : ℕ) (d : X)
     (held after : List ℕ) → i < length items → SendsOn old mid held (flat_map text (take i items)) after
-    → AppendsFront mid new (after ++ text (get_or items i d)) → AppendsFront old new (held ++ flat_map text items)
+    → AppendsFront mid new (after ++ text (get_or items i d)) →
+    AppendsFront old new (held ++ flat_map text items)
 front_past old mid new text items i d held after h first second =
     let rest = flat_map text (drop (i + 1) items) in
     let this = text (get_or items i d) in
@@ -139,6 +165,7 @@ front_past old mid new text items i d held after h first second =
     ∙ sym (flat_map-append text (take i items) (drop i items))
     ∙ ap (flat_map text) (take-append-drop i items) in
     let longer : AppendsFront mid new (after ++ (this ++ rest)) =
-    subst (AppendsFront mid new) (append_assoc after this rest) (front_of_first mid new (after ++ this) rest second) in
+    subst (AppendsFront mid new) (append_assoc after this rest)
+    (front_of_first mid new (after ++ this) rest second) in
     subst (λ (l : List ℕ). AppendsFront old new (held ++ l)) whole
     (front_after old mid new held (flat_map text (take i items)) after (this ++ rest) first longer)

@@ -11,7 +11,8 @@ Consumes-after (Some xs) None new bytes kept taken = absurd kept
 Consumes-after (Some xs) (Some ys) None bytes kept taken = absurd taken
 Consumes-after (Some xs) (Some ys) (Some zs) bytes kept taken = sym kept ∙ taken
 
-pub Appends-between : (old mid new last : Option (List ℕ)) (bytes : List ℕ) → Keeps old mid → Appends mid new bytes
+pub Appends-between : (old mid new last : Option (List ℕ)) (bytes : List ℕ) →
+    Keeps old mid → Appends mid new bytes
     → Keeps new last → Appends old last bytes
 Appends-between None mid new last bytes kept put flushed = tt
 Appends-between (Some xs) None new last bytes kept put flushed = absurd kept

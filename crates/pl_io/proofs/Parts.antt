@@ -1,5 +1,7 @@
--- What was read or written in several calls is what stands in front of a list, and then what follows it there.
-use Rattle.std.proofs.Common.{◌≡◌, ℕ, ◌+◌, ◌-◌, ◌<◌, List, [], ◌++◌, length, take, drop, get_or, sym, subst, ◌∙◌, ap, Some, None, arith, append_assoc, length-append, take-append-drop}
+-- What was read or written in several calls is what stands in front of a list, and then what follows it
+-- there.
+use Rattle.std.proofs.Common.{◌≡◌, ℕ, ◌+◌, ◌-◌, ◌<◌, List, [], ◌++◌, length, take, drop, get_or, sym, subst}
+use Rattle.std.proofs.Common.{◌∙◌, ap, Some, None, arith, append_assoc, length-append, take-append-drop}
 use Rattle.std.specs.Prelude.{Option}
 use denote.Ref.{Bor}
 use Rattle.std.proofs.Math.Seq.{take-add, take-append-add}
@@ -62,8 +64,10 @@ AppendsFront-append (Some xs) (Some ys) (Some zs) before piece after first (n, f
     )
 
 -- the pieces before the one at i were written, and then a front of that one
-pub AppendsFront-joined : (old mid new : Option (List ℕ)) (pieces : List (Bor (List ℕ))) (i : ℕ) (d : Bor (List ℕ))
-    → i < length pieces → Appends old mid (joined (take i pieces)) → AppendsFront mid new (get_or pieces i d).now
+pub AppendsFront-joined : (old mid new : Option (List ℕ)) (pieces : List (Bor (List ℕ)))
+    (i : ℕ) (d : Bor (List ℕ))
+    → i < length pieces → Appends old mid (joined (take i pieces)) →
+    AppendsFront mid new (get_or pieces i d).now
     → AppendsFront old new (joined pieces)
 AppendsFront-joined old mid new pieces i d h first second =
     subst (AppendsFront old new) (sym (joined_at pieces i d h))

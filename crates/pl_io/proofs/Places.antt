@@ -1,5 +1,7 @@
 -- The first file of a name, by its place.
-use Rattle.std.proofs.Common.{◌≡◌, ℕ, suc, ◌+◌, ◌-◌, min, Bool, true, false, cond, List, [], ◌∷◌, length, take, drop, get_or, Some, None, is_some, refl, sym, ap, ◌∙◌, subst, arith, bytes_eq, take-append-drop, ◌++◌}
+use Rattle.std.proofs.Common.{◌≡◌, ℕ, suc, ◌+◌, ◌-◌, min, Bool, true, false, cond, List, [], ◌∷◌, length}
+use Rattle.std.proofs.Common.{take, drop, get_or, Some, None, is_some, refl, sym, ap, ◌∙◌, subst, arith}
+use Rattle.std.proofs.Common.{bytes_eq, take-append-drop, ◌++◌}
 use Rattle.std.specs.Prelude.{Option, option_map}
 use Rattle.std.specs.List.{slice_get, position_from}
 use Rattle.std.proofs.lemmas.Iterator.Adapters.{position_from-zero}
@@ -25,7 +27,8 @@ IsFirst-head : (name : List ℕ) (file : NamedBytes) (files : List NamedBytes) �
 IsFirst-head name file files e =
     record { file = file; at = refl; named = (bytes_eq-Decides file.0 name).0 e; content = rw e }
 
-IsFirst-cons : (name : List ℕ) (file : NamedBytes) (files : List NamedBytes) (i : ℕ) → bytes_eq file.0 name ≡ false
+IsFirst-cons : (name : List ℕ) (file : NamedBytes) (files : List NamedBytes) (i : ℕ) →
+    bytes_eq file.0 name ≡ false
     → IsFirst name files i → IsFirst name (file ∷ files) (suc i)
 IsFirst-cons name file files i e first =
     record { file = first.file; at = first.at; named = first.named; content = rw e first.content }
@@ -34,7 +37,8 @@ IsFirst-cons name file files i e first =
 abbrev Finds : List ℕ → List NamedBytes → ℕ → ℕ → Type 0
 Finds name files start k = (i : ℕ) × (k ≡ start + i) × IsFirst name files i
 
-Finds-cons : (name : List ℕ) (file : NamedBytes) (files : List NamedBytes) (start k : ℕ) → bytes_eq file.0 name ≡ false
+Finds-cons : (name : List ℕ) (file : NamedBytes) (files : List NamedBytes) (start k : ℕ) →
+    bytes_eq file.0 name ≡ false
     → Finds name files (start + 1) k → Finds name (file ∷ files) start k
 Finds-cons name file files start k e (i, at, first) =
     (suc i, omega (arith, at), IsFirst-cons name file files i e first)
@@ -44,9 +48,14 @@ finds : (name : List ℕ) (files : List NamedBytes) (start k : ℕ)
 finds name [] start k found = absurd (cc found)
 finds name (file ∷ files) start k found =
     let P : Bool → Type 0 = λ b. bytes_eq file.0 name ≡ b
-    → cond b (Some start) (position_from (has_name name) (start + 1) files) ≡ Some k → Finds name (file ∷ files) start k in
+    → cond b (Some start) (position_from (has_name name) (start + 1) files) ≡ Some k →
+    Finds name (file ∷ files) start k in
     elim (bytes_eq file.0 name) as P [
-      | true ↦ λ e here. (0, (let same : start ≡ k = (cc) in omega (arith, same)), IsFirst-head name file files e)
+      | true ↦ λ e here. (
+        0,
+        (let same : start ≡ k = (cc) in omega (arith, same)),
+        IsFirst-head name file files e,
+      )
       | false ↦ λ e later. Finds-cons name file files start k e (finds name files (start + 1) k later)
     ] refl found
 
@@ -64,8 +73,10 @@ pub first_place-is_some : (files : List NamedBytes) (name : List ℕ)
 first_place-is_some files name =
     ap is_some (position_from-zero (has_name name) files) ∙ sym (some_place name files 0)
 
-first_at : (files : List NamedBytes) (name : List ℕ) (k : ℕ) → first_place files name ≡ Some k → IsFirst name files k
-first_at files name k found = at_zero (finds name files 0 k (sym (position_from-zero (has_name name) files) ∙ found))
+first_at : (files : List NamedBytes) (name : List ℕ) (k : ℕ) → first_place files name ≡ Some k →
+    IsFirst name files k
+first_at files name k found = at_zero
+    (finds name files 0 k (sym (position_from-zero (has_name name) files) ∙ found))
   where
     at_zero : Finds name files 0 k → IsFirst name files k
     at_zero (i, at, first) = let same : i ≡ k = omega (arith, at) in subst (IsFirst name files) same first
@@ -76,7 +87,8 @@ first_place-name_at files name k found =
     let first = first_at files name k found in
     rw first.at (ap Some first.named)
 
-pub first_place-IsFirstOfItsName : (files : List NamedBytes) (name : List ℕ) (k : ℕ) → first_place files name ≡ Some k
+pub first_place-IsFirstOfItsName : (files : List NamedBytes) (name : List ℕ) (k : ℕ) →
+    first_place files name ≡ Some k
     → IsFirstOfItsName files k
 first_place-IsFirstOfItsName files name k found =
     let first = first_at files name k found in (
@@ -89,7 +101,8 @@ first_place-IsFirstOfItsName files name k found =
 
 -- what the file at that place has left, as the slice of its bytes from there on
 pub left_of-name_at : (files : List NamedBytes) (i place start : ℕ) (file : NamedBytes) (bytes : List ℕ)
-    → IsFirstOfItsName files i → file ≡ get_or files i file → bytes ≡ file.1 → start ≡ min place (length bytes)
+    → IsFirstOfItsName files i → file ≡ get_or files i file → bytes ≡ file.1 →
+    start ≡ min place (length bytes)
     → left_of (Some files) (name_at files i) place ≡ Some (take (length bytes - start) (drop start bytes))
 left_of-name_at files i place start file bytes (within, first) read content from =
     let at : slice_get files i ≡ Some file = slice_get_read files (length files) i file refl within read in
@@ -116,15 +129,19 @@ left_of-add (Some files) (Some name) place count left known = content_left (cont
         ap Some (sym (drop-drop count place bytes) ∙ ap (drop count) same)
 
 -- a read that gives the front of what is left
-pub Consumes-left_of : (old : Option (List ℕ)) (files : Option (List NamedBytes)) (current : Option (List ℕ)) (place count : ℕ)
-    (left bytes : List ℕ) → old ≡ Some left → left_of files current place ≡ Some left → bytes ≡ take count left
+pub Consumes-left_of : (old : Option (List ℕ)) (files : Option (List NamedBytes))
+    (current : Option (List ℕ)) (place count : ℕ)
+    (left bytes : List ℕ) → old ≡ Some left → left_of files current place ≡ Some left →
+    bytes ≡ take count left
     → Consumes old (left_of files current (place + count)) bytes
 Consumes-left_of old files current place count left bytes before known given =
     rw (before, left_of-add files current place count left known)
     (sym (take-append-drop count left) ∙ ap (λ (front : List ℕ). front ++ drop count left) (sym given))
 
 -- where nothing is left, the file is at its end
-pub IsAtEnd-left_of : (files : Option (List NamedBytes)) (current : Option (List ℕ)) (place count : ℕ) (left : List ℕ)
-    → left_of files current place ≡ Some left → length left ≡ 0 → IsAtEnd (left_of files current (place + count))
+pub IsAtEnd-left_of : (files : Option (List NamedBytes)) (current : Option (List ℕ))
+    (place count : ℕ) (left : List ℕ)
+    → left_of files current place ≡ Some left → length left ≡ 0 →
+    IsAtEnd (left_of files current (place + count))
 IsAtEnd-left_of files current place count left known none =
     rw (left_of-add files current place count left known) (drop_all count left (omega (arith, none)))

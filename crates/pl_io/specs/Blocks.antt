@@ -11,7 +11,8 @@ block_bytes = 65536
 abbrev pub held_of : Blocks → List ℕ
 held_of blocks = blocks.held.items
 
--- Of the bytes that were held back and then the new ones, a front was written in its order, and the rest is left.
+-- Of the bytes that were held back and then the new ones, a front was written in its order, and the rest is
+-- left.
 pub record SendsOn (old new : Option (List ℕ)) (held bytes left : List ℕ) : Type 0 where
   pub sent : List ℕ
   pub put : Appends old new sent

@@ -29,7 +29,8 @@ room_of sink = sink.room
 
 -- the calls that fail, the most bytes of a call and the room stay as they were
 abbrev pub SameScript : MemSink → MemSink → Type 0
-SameScript old new = (failing_of new ≡ failing_of old) × (piece_of new ≡ piece_of old) × (room_of new ≡ room_of old)
+SameScript old new = (failing_of new ≡ failing_of old) × (piece_of new ≡ piece_of old) ×
+    (room_of new ≡ room_of old)
 
 abbrev pub seen_of : MemSink → SinkSeen
 seen_of sink = record { written = Some (written_of sink); faults = faults_of sink }

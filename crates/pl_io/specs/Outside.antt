@@ -1,6 +1,8 @@
--- What a shelf of files and a sink of bytes tell of themselves, and what a call does to them. A shelf or a sink may
--- tell nothing of its bytes (`None`), as one over the operating system does.
-use Rattle.std.specs.Prelude.{◌≡◌, ℕ, ◌+◌, ◌-◌, ◌^◌, ◌<◌, ◌≤◌, min, Bool, true, false, cond, ◌⊎◌, List, [], ◌∷◌, ◌++◌, length, take, drop, flat_map, bytes_eq, ⊤, Option, Some, None, is_some, IsSome, IsSomeAnd, option_map, Result, Ok, Err, OnErr}
+-- What a shelf of files and a sink of bytes tell of themselves, and what a call does to them. A shelf or a
+-- sink may tell nothing of its bytes (`None`), as one over the operating system does.
+use Rattle.std.specs.Prelude.{◌≡◌, ℕ, ◌+◌, ◌-◌, ◌^◌, ◌<◌, ◌≤◌, min, Bool, true, false, cond, ◌⊎◌, List, []}
+use Rattle.std.specs.Prelude.{◌∷◌, ◌++◌, length, take, drop, flat_map, bytes_eq, ⊤, Option, Some, None}
+use Rattle.std.specs.Prelude.{is_some, IsSome, IsSomeAnd, option_map, Result, Ok, Err, OnErr}
 use denote.Ref.{Bor}
 use Rattle.pl_io.specs.declared.error.Failed.{Failed}
 use Rattle.pl_io.specs.declared.error.ReadEnd.{ReadEnd}
@@ -16,7 +18,8 @@ NamedBytes = List ℕ × List ℕ
 
 -- what a shelf tells of itself
 pub record ShelfSeen : Type 0 where
-  -- the files with their names, where it tells them; the first file of a name counts, and no call changes them
+  -- the files with their names, where it tells them; the first file of a name counts, and no call changes
+  -- them
   pub files : Option (List NamedBytes)
   -- the name of the file at hand; of a shelf that tells no files it only says whether there is one
   pub current : Option (List ℕ)
@@ -80,8 +83,8 @@ Begins files name current (Ok true) = IsAtHand files name current
 Begins files name current (Ok false) = IsMissing files name × (current ≡ None)
 Begins files name current (Err e) = current ≡ None
 
--- Where the names begun are told after some calls, they are those told before them, and then these. A shelf may stop telling
--- them.
+-- Where the names begun are told after some calls, they are those told before them, and then these. A shelf
+-- may stop telling them.
 abbrev pub BegunThen : Option (List (List ℕ)) → List (List ℕ) → Option (List (List ℕ)) → Type 0
 BegunThen old names None = ⊤
 BegunThen None names (Some new) = ⊥
@@ -124,7 +127,8 @@ IsAnswerToAbsence (Err TooLong) = ⊥
 IsAnswerToAbsence (Err (Memory e)) = ⊥
 
 -- which file is at hand after a reading of the file of that name
-abbrev pub LeavesCurrent : {T : Type 0} → Option (List NamedBytes) → List ℕ → Option (List ℕ) → Result T ReadEnd → Type 0
+abbrev pub LeavesCurrent : {T : Type 0} → Option (List NamedBytes) → List ℕ → Option (List ℕ) →
+    Result T ReadEnd → Type 0
 LeavesCurrent files name current (Ok bytes) = IsAtHand files name current
 LeavesCurrent files name current (Err Missing) = current ≡ None
 LeavesCurrent files name current (Err ReadFault) = (current ≡ None) ⊎ IsAtHand files name current

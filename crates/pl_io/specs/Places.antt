@@ -14,4 +14,5 @@ first_place files name = position (λ (file : NamedBytes). bytes_eq file.0 name)
 -- a file stands at that place, and it is the first of its name
 abbrev pub IsFirstOfItsName : List NamedBytes → ℕ → Type 0
 IsFirstOfItsName files i =
-    (i < length files) × ((file : NamedBytes) → slice_get files i ≡ Some file → content_of files file.0 ≡ Some file.1)
+    (i < length files) × ((file : NamedBytes) → slice_get files i ≡ Some file →
+    content_of files file.0 ≡ Some file.1)

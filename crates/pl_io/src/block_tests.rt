@@ -9,12 +9,13 @@ use crate::{Blocks, Failed, MemSink, Sink};
 use std::test::Fail;
 
 /// Writes the pieces through empty blocks, to their end.
-fn put_through<O: Sink>(blocks: &mut Blocks, out: &mut O, pieces: &[&[u8]]) -> Result<(), Failed>
+fn put_through<O: Sink>(blocks: &mut Blocks, out: &mut O, parts: &[&[u8]]) -> Result<(), Failed>
     requires { held_of blocks.old ≡ [] }
-    ensures all { OnOk result (Appends (O.seen out.old).written (O.seen out.new).written (joined pieces.now)) }
-    ensures front { OnErr result (AppendsFront (O.seen out.old).written (O.seen out.new).written (joined pieces.now)) }
+    ensures all { OnOk result (Appends (O.seen out.old).written (O.seen out.new).written (joined parts.now)) }
+    ensures front { OnErr result (AppendsFront (O.seen out.old).written
+        (O.seen out.new).written (joined parts.now)) }
 {
-    blocks.put_pieces(out, pieces)?;
+    blocks.put_pieces(out, parts)?;
     blocks.finish(out)?;
     Ok(())
 }
@@ -40,7 +41,8 @@ fn short_pieces_wait(rt: HostRuntime) -> Result<(), Fail> {
 
 #[test]
 fn long_pieces_are_written(rt: HostRuntime) -> Result<(), Fail> {
-    // A call takes all. The first writes a full block, and the second what is left of the long piece or of the block.
+    // A call takes all. The first writes a full block, and the second what is left of the long piece or of
+    // the block.
     for (count, failing, written) in [
         (65_533, &[][..], 65_536),
         (65_534, &[2], 65_536),

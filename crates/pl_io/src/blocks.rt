@@ -12,8 +12,8 @@ const BLOCK_BYTES: usize = 65_536;
 
 /// Bytes on their way to a sink, held back until they fill a block of 65,536.
 ///
-/// `new` takes all the memory. Each call is given the sink, which is to be the same one each time. What is still held
-/// back at the end is written by `finish`.
+/// `new` takes all the memory. Each call is given the sink, which is to be the same one each time. What is
+/// still held back at the end is written by `finish`.
 #[derive(Drop)]
 pub struct Blocks {
     held: Vec<u8>,
@@ -39,8 +39,8 @@ impl Blocks {
     ///
     /// # Errors
     ///
-    /// `Failed` where the sink failed. Then a front of what was held back and the piece was written, the rest is lost,
-    /// and nothing is held back.
+    /// `Failed` where the sink failed. Then a front of what was held back and the piece was written, the rest
+    /// is lost, and nothing is held back.
     pub fn put<O: Sink>(&mut self, sink: &mut O, piece: &[u8]) -> Result<(), Failed>
         ensures all { OnOk result (SendsOn (O.seen sink.old).written (O.seen sink.new).written
             (held_of self.old) piece.now (held_of self.new)) }

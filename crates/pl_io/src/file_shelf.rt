@@ -7,8 +7,8 @@ use std::fs::File;
 
 /// The files of the operating system: a name is a path.
 ///
-/// It tells no files, so it never answers that there is no such file: each opening that is refused is a fault. A call
-/// that is interrupted is made up to 1,000 times before it counts as a fault.
+/// It tells no files, so it never answers that there is no such file: each opening that is refused is a
+/// fault. A call that is interrupted is made up to 1,000 times before it counts as a fault.
 #[derive(Drop)]
 pub struct FileShelf<'a> {
     runtime: &'a HostRuntime,

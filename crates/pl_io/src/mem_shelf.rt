@@ -12,8 +12,8 @@ use crate::shelf::Shelf;
 
 /// A shelf that keeps its files in memory, and fails at the calls that it is told to fail at.
 ///
-/// Calls of `begin` and `read` are numbered together from 1. It tells which names were begun as long as there is memory
-/// to note them.
+/// Calls of `begin` and `read` are numbered together from 1. It tells which names were begun as long as there
+/// is memory to note them.
 #[derive(Drop)]
 pub struct MemShelf {
     files: Vec<NamedFile>,
@@ -28,10 +28,12 @@ pub struct MemShelf {
 }
 
 impl MemShelf {
-    ghost use Rattle.std.specs.Prelude.{◌≡◌, ◌↔◌, ◌^◌, ◌<◌, IsTrue, [], Contains, None, Some, IsSome, if◌then◌else◌};
+    ghost use Rattle.std.specs.Prelude.{◌≡◌, ◌↔◌, ◌^◌, ◌<◌, IsTrue, [], Contains, None, Some, IsSome};
+    ghost use Rattle.std.specs.Prelude.{if◌then◌else◌};
     ghost use Rattle.pl_io.specs.Outside.{left_of};
     ghost use Rattle.pl_io.specs.Numbered.{next_number};
-    ghost use Rattle.pl_io.specs.MemShelf.{files_of, current_of, place_of, begun_of, faults_of, calls_of, failing_of, piece_of};
+    ghost use Rattle.pl_io.specs.MemShelf.{files_of, current_of, place_of, begun_of, faults_of, calls_of};
+    ghost use Rattle.pl_io.specs.MemShelf.{failing_of, piece_of};
 
     /// A shelf of these files, of which the first of a name counts.
     ///
@@ -63,7 +65,8 @@ impl MemShelf {
     fn fails(&mut self) -> bool
         ensures fails { IsTrue result ↔ Contains (failing_of self.new) (calls_of self.new) }
         ensures calls { calls_of self.new ≡ next_number (calls_of self.old) }
-        ensures faults { faults_of self.new ≡ (if result then next_number (faults_of self.old) else faults_of self.old) }
+        ensures faults { faults_of self.new ≡ (if result then next_number (faults_of self.old)
+            else faults_of self.old) }
         ensures later { faults_of self.old ≤ faults_of self.new }
         ensures same { self.new ≡ record self.old { numbered = self.new.numbered; faults = self.new.faults } }
         ensures failing { failing_of self.new ≡ failing_of self.old }
@@ -78,7 +81,8 @@ impl MemShelf {
     /// What the file at hand has left.
     fn left(&self) -> &[u8]
         requires { IsSome (current_of self.now) }
-        ensures { left_of (Some (files_of self.now)) (current_of self.now) (place_of self.now) ≡ Some result.now }
+        ensures { left_of (Some (files_of self.now)) (current_of self.now)
+            (place_of self.now) ≡ Some result.now }
     {
         match self.current {
             Some(i) => {
@@ -91,17 +95,20 @@ impl MemShelf {
 }
 
 impl Shelf for MemShelf {
-    ghost use Rattle.std.specs.Prelude.{◌≡◌, ◌+◌, ◌↔◌, ◌^◌, ◌<◌, [], ◌∷◌, length, min, Contains, Some, is_some, IsErr, IsSome, IfOk, IsSomeAnd};
+    ghost use Rattle.std.specs.Prelude.{◌≡◌, ◌+◌, ◌↔◌, ◌^◌, ◌<◌, [], ◌∷◌, length, min, Contains, Some};
+    ghost use Rattle.std.specs.Prelude.{is_some, IsErr, IsSome, IfOk, IsSomeAnd};
     ghost use Rattle.std.specs.Result.{result_unwrap_or};
     ghost use Rattle.std.specs.Io.{ReadsAtMost};
     ghost use Rattle.std.specs.Io.KnownBytes.{ReadConsumes};
     ghost use Rattle.pl_io.specs.Outside.{Begins, BegunThen, HasCause, faults_after, content_of, left_of};
     ghost use Rattle.pl_io.specs.Numbered.{next_number};
-    ghost use Rattle.pl_io.specs.MemShelf.{seen_of, files_of, current_of, place_of, begun_of, faults_of, calls_of, failing_of, piece_of, SameScript};
+    ghost use Rattle.pl_io.specs.MemShelf.{seen_of, files_of, current_of, place_of, begun_of, faults_of};
+    ghost use Rattle.pl_io.specs.MemShelf.{calls_of, failing_of, piece_of, SameScript};
 
     ghost seen = { seen_of };
 
-    /// It fails exactly where the call's number is among those that fail, and else answers whether there is such a file.
+    /// It fails exactly where the call's number is among those that fail, and else answers whether there is
+    /// such a file.
     #[tactic(auto, using(crate::proofs::Places::by_place))]
     fn begin(&mut self, name: &str) -> Result<bool, Failed>
         ensures begins { Begins (Some (files_of self.old)) name.now (current_of self.new) result }
@@ -126,13 +133,14 @@ impl Shelf for MemShelf {
         Ok(self.current.is_some())
     }
 
-    /// It fails exactly where the call's number is among those that fail, and else gives as many bytes as the file has
-    /// left, the buffer has room for and a read gives at most.
+    /// It fails exactly where the call's number is among those that fail, and else gives as many bytes as the
+    /// file has left, the buffer has room for and a read gives at most.
     fn read(&mut self, buffer: &mut [u8]) -> Result<usize, Failed>
         requires at_hand { IsSome (current_of self.old) }
         requires room { place_of self.old + length buffer.old < 2 ^ 64 }
         ensures within { ReadsAtMost result buffer.new }
-        ensures bytes { ReadConsumes (left_of (Some (files_of self.old)) (current_of self.old) (place_of self.old))
+        ensures bytes { ReadConsumes (left_of (Some (files_of self.old))
+            (current_of self.old) (place_of self.old))
             (left_of (Some (files_of self.new)) (current_of self.new) (place_of self.new)) result buffer.new }
         ensures place { place_of self.new ≡ place_of self.old + result_unwrap_or result 0 }
         ensures files { files_of self.new ≡ files_of self.old }

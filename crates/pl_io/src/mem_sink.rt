@@ -7,7 +7,8 @@ use crate::numbered::Numbered;
 use crate::sink::Sink;
 use std::alloc::{AllocError, Global};
 
-/// A sink that keeps what is written to it, up to its room, and fails at the calls that it is told to fail at.
+/// A sink that keeps what is written to it, up to its room, and fails at the calls that it is told to fail
+/// at.
 ///
 /// Calls of `write` are numbered from 1; one with an empty piece is not.
 #[derive(Drop)]
@@ -62,30 +63,35 @@ impl MemSink {
 }
 
 impl Sink for MemSink {
-    ghost use Rattle.std.specs.Prelude.{◌≡◌, ◌-◌, ◌<◌, ◌↔◌, ◌⊎◌, length, min, Contains, Some, Ok, IsErr, IfOk, OnOk};
+    ghost use Rattle.std.specs.Prelude.{◌≡◌, ◌-◌, ◌<◌, ◌↔◌, ◌⊎◌, length, min, Contains, Some, Ok, IsErr};
+    ghost use Rattle.std.specs.Prelude.{IfOk, OnOk};
     ghost use Rattle.std.specs.Result.{result_unwrap_or};
     ghost use Rattle.std.specs.Io.{WritesAtMost};
     ghost use Rattle.std.specs.Io.KnownBytes.{WriteAppends};
     ghost use Rattle.pl_io.specs.Outside.{HasCause, SameTelling, faults_after};
     ghost use Rattle.pl_io.specs.Numbered.{next_number};
-    ghost use Rattle.pl_io.specs.MemSink.{seen_of, written_of, faults_of, calls_of, failing_of, piece_of, room_of, SameScript};
+    ghost use Rattle.pl_io.specs.MemSink.{seen_of, written_of, faults_of, calls_of, failing_of, piece_of};
+    ghost use Rattle.pl_io.specs.MemSink.{room_of, SameScript};
 
     ghost seen = { seen_of };
 
-    /// Of a piece with a byte it fails exactly where the call's number is among those that fail or the room is full, and
-    /// else takes as many bytes as the piece has, a call takes at most and there is room left for.
+    /// Of a piece with a byte it fails exactly where the call's number is among those that fail or the room
+    /// is full, and else takes as many bytes as the piece has, a call takes at most and there is room left
+    /// for.
     fn write(&mut self, piece: &[u8]) -> Result<usize, Failed>
         ensures within { WritesAtMost result piece.now }
         ensures empty { length piece.now ≡ 0 → (result ≡ Ok 0) × (self.new ≡ self.old) }
         ensures some { 0 < length piece.now → OnOk result (0 < result_unwrap_or result 0) }
-        ensures bytes { WriteAppends (Some (written_of self.old)) (Some (written_of self.new)) result piece.now }
+        ensures bytes { WriteAppends (Some (written_of self.old)) (Some (written_of self.new)) result
+            piece.now }
         ensures cause { HasCause (faults_of self.old) (faults_of self.new) result }
 
         ensures fails { 0 < length piece.now → IsErr result
             ↔ (Contains (failing_of self.old) (next_number (calls_of self.old))
             ⊎ (length (written_of self.old) ≡ room_of self.old)) }
         ensures amount { 0 < length piece.now → IfOk result (λ count. count
-            ≡ min (piece_of self.old) (min (length piece.now) (room_of self.old - length (written_of self.old)))) }
+            ≡ min (piece_of self.old) (min (length piece.now)
+            (room_of self.old - length (written_of self.old)))) }
         ensures counts { faults_of self.new ≡ faults_after (faults_of self.old) result }
         ensures calls { 0 < length piece.now → calls_of self.new ≡ next_number (calls_of self.old) }
         ensures script { SameScript self.old self.new }

@@ -14,7 +14,8 @@ use crate::sink::Sink;
 /// `Failed` where the sink failed. Then a front of the bytes was written, and maybe nothing.
 pub fn put_all<O: Sink>(sink: &mut O, bytes: &[u8]) -> Result<(), Failed>
     ensures all { OnOk result (Appends (O.seen sink.old).written (O.seen sink.new).written bytes.now) }
-    ensures front { OnErr result (AppendsFront (O.seen sink.old).written (O.seen sink.new).written bytes.now) }
+    ensures front { OnErr result (AppendsFront (O.seen sink.old).written
+        (O.seen sink.new).written bytes.now) }
     ensures empty { length bytes.now ≡ 0 → (result ≡ Ok tt) × (sink.new ≡ sink.old) }
     ensures told { SameTelling (O.seen sink.old).written (O.seen sink.new).written }
     ensures cause { HasCause (O.seen sink.old).faults (O.seen sink.new).faults result }
@@ -32,8 +33,10 @@ pub fn put_all<O: Sink>(sink: &mut O, bytes: &[u8]) -> Result<(), Failed>
 ///
 /// `Failed` where the sink failed. Then a front of the joined bytes was written, and maybe nothing.
 pub fn put_pieces<O: Sink>(sink: &mut O, pieces: &[&[u8]]) -> Result<(), Failed>
-    ensures all { OnOk result (Appends (O.seen sink.old).written (O.seen sink.new).written (joined pieces.now)) }
-    ensures front { OnErr result (AppendsFront (O.seen sink.old).written (O.seen sink.new).written (joined pieces.now)) }
+    ensures all { OnOk result (Appends (O.seen sink.old).written
+        (O.seen sink.new).written (joined pieces.now)) }
+    ensures front { OnErr result (AppendsFront (O.seen sink.old).written
+        (O.seen sink.new).written (joined pieces.now)) }
     ensures empty { length (joined pieces.now) ≡ 0 → (result ≡ Ok tt) × (sink.new ≡ sink.old) }
     ensures told { SameTelling (O.seen sink.old).written (O.seen sink.new).written }
     ensures cause { HasCause (O.seen sink.old).faults (O.seen sink.new).faults result }

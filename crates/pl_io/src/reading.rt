@@ -1,9 +1,11 @@
 //! Reads a file from a shelf to its end.
 
-ghost use Rattle.std.specs.Prelude.{◌≡◌, ◌+◌, ◌<◌, ◌≤◌, ◌↔◌, [], ◌∷◌, length, take, drop, IfOk, IfSome, IsErrOf, IsSome, vec_len};
+ghost use Rattle.std.specs.Prelude.{◌≡◌, ◌+◌, ◌<◌, ◌≤◌, ◌↔◌, [], ◌∷◌, length, take, drop, IfOk, IfSome};
+ghost use Rattle.std.specs.Prelude.{IsErrOf, IsSome, vec_len};
 ghost use Rattle.std.specs.Result.{result_unwrap_or};
 ghost use Rattle.std.specs.Io.KnownBytes.{Consumes, IsAtEnd};
-ghost use Rattle.pl_io.specs.Outside.{IsMissing, IsAtHand, IsWholeFile, IsLongerThan, IsAnswerToAbsence, LeavesCurrent, BegunThen, Rose, left_in, most_file_bytes};
+ghost use Rattle.pl_io.specs.Outside.{IsMissing, IsAtHand, IsWholeFile, IsLongerThan, IsAnswerToAbsence};
+ghost use Rattle.pl_io.specs.Outside.{LeavesCurrent, BegunThen, Rose, left_in, most_file_bytes};
 
 use crate::error::ReadEnd;
 use crate::shelf::Shelf;
@@ -17,14 +19,14 @@ const PIECE_BYTES: usize = 65_536;
 
 /// The bytes of the file of that name, which becomes the shelf's file at hand.
 ///
-/// The bytes are read straight into the answer, at most 65,536 at a time. It has room for 65,537 bytes at first, and
-/// doubles its room where it must.
+/// The bytes are read straight into the answer, at most 65,536 at a time. It has room for 65,537 bytes at
+/// first, and doubles its room where it must.
 ///
 /// # Errors
 ///
-/// `Missing` where the shelf knows that it has no such file; then no file is at hand. `ReadFault` where the shelf
-/// failed; then this file is at hand, or none. `TooLong` once more than `MAX_FILE_BYTES` bytes were given, and `Memory`
-/// at any time after the file was found; then this file is at hand.
+/// `Missing` where the shelf knows that it has no such file; then no file is at hand. `ReadFault` where the
+/// shelf failed; then this file is at hand, or none. `TooLong` once more than `MAX_FILE_BYTES` bytes were
+/// given, and `Memory` at any time after the file was found; then this file is at hand.
 pub fn read_whole<S: Shelf>(alloc: Global, shelf: &mut S, name: &str) -> Result<Vec<u8>, ReadEnd>
     ensures whole { IfOk result (λ bytes. IsWholeFile (S.seen shelf.old).files name.now bytes.items) }
     ensures within { IfOk result (λ bytes. vec_len bytes ≤ most_file_bytes) }
@@ -32,9 +34,11 @@ pub fn read_whole<S: Shelf>(alloc: Global, shelf: &mut S, name: &str) -> Result<
 
     ensures missing { IsErrOf result ReadEnd.Missing → IsMissing (S.seen shelf.old).files name.now }
     ensures absent { IsMissing (S.seen shelf.old).files name.now → IsAnswerToAbsence result }
-    ensures fault { IsErrOf result ReadEnd.ReadFault → Rose (S.seen shelf.old).faults (S.seen shelf.new).faults }
+    ensures fault { IsErrOf result ReadEnd.ReadFault →
+        Rose (S.seen shelf.old).faults (S.seen shelf.new).faults }
     ensures too_long { IsErrOf result ReadEnd.TooLong ↔ ((S.seen shelf.new).place ≡ most_file_bytes + 1) }
-    ensures longer { IsErrOf result ReadEnd.TooLong → IsLongerThan most_file_bytes (S.seen shelf.old).files name.now }
+    ensures longer { IsErrOf result ReadEnd.TooLong →
+        IsLongerThan most_file_bytes (S.seen shelf.old).files name.now }
 
     ensures files { (S.seen shelf.new).files ≡ (S.seen shelf.old).files }
     ensures begun { BegunThen (S.seen shelf.old).begun (name.now ∷ []) (S.seen shelf.new).begun }
@@ -78,7 +82,8 @@ fn read_piece<S: Shelf>(shelf: &mut S, bytes: &mut Vec<u8>, filled: usize) -> Re
     ensures place { IfOk result (λ n. (S.seen shelf.new).place ≡ filled + n) }
 
     ensures found { IsErrOf result ReadEnd.Missing → ⊥ }
-    ensures fault { IsErrOf result ReadEnd.ReadFault → Rose (S.seen shelf.old).faults (S.seen shelf.new).faults }
+    ensures fault { IsErrOf result ReadEnd.ReadFault →
+        Rose (S.seen shelf.old).faults (S.seen shelf.new).faults }
     ensures too_long { IsErrOf result ReadEnd.TooLong ↔ ((S.seen shelf.new).place ≡ most_file_bytes + 1) }
     ensures longer { IsErrOf result ReadEnd.TooLong → IfSome
         (left_in (S.seen shelf.old))

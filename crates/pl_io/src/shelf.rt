@@ -10,17 +10,17 @@ use crate::error::Failed;
 
 /// A place that files are read from, one at a time, from the front.
 ///
-/// A shelf in memory tells its files, and then a clause says which bytes a read gives. One over the operating system
-/// tells none, and its clauses are about counts alone.
+/// A shelf in memory tells its files, and then a clause says which bytes a read gives. One over the operating
+/// system tells none, and its clauses are about counts alone.
 pub trait Shelf {
-    /// What the shelf tells of itself: its files, the file at hand, the bytes given of it, the names begun, and how many
-    /// calls failed.
+    /// What the shelf tells of itself: its files, the file at hand, the bytes given of it, the names begun,
+    /// and how many calls failed.
     ghost seen: { Self → ShelfSeen };
 
     /// Takes the file of that name to hand, at its first byte.
     ///
-    /// It answers false only where the shelf tells its files and none has the name; a shelf that can't know fails
-    /// instead. After false, and after a failure, no file is at hand.
+    /// It answers false only where the shelf tells its files and none has the name; a shelf that can't know
+    /// fails instead. After false, and after a failure, no file is at hand.
     fn begin(&mut self, name: &str) -> Result<bool, Failed>
         ensures begins { Begins (seen self.old).files name.now (seen self.new).current result }
         ensures place { (seen self.new).place ≡ 0 }
@@ -30,8 +30,8 @@ pub trait Shelf {
 
     /// Gives the next bytes of the file at hand at the front of `buffer`, and says how many.
     ///
-    /// It gives fewer than there is room for at any time, and none only at the file's end or into an empty buffer.
-    /// After a failure nothing was given, and the file is still at hand.
+    /// It gives fewer than there is room for at any time, and none only at the file's end or into an empty
+    /// buffer. After a failure nothing was given, and the file is still at hand.
     fn read(&mut self, buffer: &mut [u8]) -> Result<usize, Failed>
         requires at_hand { IsSome (seen self.old).current }
         requires room { (seen self.old).place + length buffer.old < 2 ^ 64 }

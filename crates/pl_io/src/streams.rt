@@ -7,7 +7,8 @@ use std::io::{Stderr, Stdout};
 
 /// Standard output. It tells nothing of what was written.
 ///
-/// Each write is sent on at once. A call that is interrupted is made up to 1,000 times before it counts as a fault.
+/// Each write is sent on at once. A call that is interrupted is made up to 1,000 times before it counts as a
+/// fault.
 #[derive(Drop)]
 pub struct OutSink {
     stream: Stdout,
@@ -55,7 +56,8 @@ impl Sink for OutSink {
 
 /// Standard error. It tells nothing of what was written.
 ///
-/// Each write is sent on at once. A call that is interrupted is made up to 1,000 times before it counts as a fault.
+/// Each write is sent on at once. A call that is interrupted is made up to 1,000 times before it counts as a
+/// fault.
 #[derive(Drop)]
 pub struct ErrSink {
     stream: Stderr,

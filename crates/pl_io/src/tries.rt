@@ -44,7 +44,8 @@ pub fn read<R: Read>(from: &mut R, buffer: &mut [u8]) -> Result<usize, Failed>
 #[tactic(auto, using(crate::proofs::Kept::kept))]
 pub fn write<W: Write>(to: &mut W, piece: &[u8]) -> Result<usize, Failed>
     ensures within { WritesAtMost result piece.now }
-    ensures bytes { IfOk result (λ count. Appends (W.contents to.old) (W.contents to.new) (take count piece.now)) }
+    ensures bytes { IfOk result (λ count. Appends (W.contents to.old) (W.contents to.new)
+        (take count piece.now)) }
     ensures some { IfOk result (λ count. 0 < count) }
 {
     for _ in 0..TRIES {

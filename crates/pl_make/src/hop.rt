@@ -3,7 +3,8 @@
 ghost use Rattle.std.specs.Prelude.{◌≡◌, ◌++◌, ◌+◌, ◌*◌, ◌≤◌, ◌<◌, ◌^◌, length, IfOk, OnOk};
 ghost use Rattle.std.specs.List.{flat_map};
 ghost use Rattle.pl_task.specs.Types.{numbers_below};
-ghost use Rattle.pl_make.specs.Texts.{hop_domain as hop_domain_text, hop_problem as hop_problem_text, links_of, seed_after, next_seed, place_of};
+ghost use Rattle.pl_make.specs.Texts.{hop_domain as hop_domain_text, hop_problem as hop_problem_text};
+ghost use Rattle.pl_make.specs.Texts.{links_of, seed_after, next_seed, place_of};
 
 use crate::writing::{put_atom, put_names, put_number};
 use std::alloc::{AllocError, Global};
@@ -37,7 +38,8 @@ pub fn hop_problem(alloc: Global, n: u32, start: u64) -> Result<Vec<u8>, AllocEr
 #[tactic(auto, using(crate::proofs::Numbers::pieces))]
 fn put_links(text: &mut Vec<u8>, n: u32, start: u64) -> Result<(), AllocError>
     requires some { 1 ≤ n }
-    ensures text { OnOk result (text.new.items ≡ text.old.items ++ flat_map (links_of n start) (numbers_below n)) }
+    ensures text { OnOk result (text.new.items ≡ text.old.items ++
+        flat_map (links_of n start) (numbers_below n)) }
 {
     let mut seed = start;
     for i in 0..n {
@@ -50,7 +52,8 @@ fn put_links(text: &mut Vec<u8>, n: u32, start: u64) -> Result<(), AllocError>
 /// Appends the links of a place, where `seed` stands for the drawn one.
 fn put_links_of(text: &mut Vec<u8>, n: u32, i: u32, seed: u64) -> Result<(), AllocError>
     requires place { i < n }
-    ensures text { (start : _) → seed ≡ seed_after start (i + 1) → OnOk result (text.new.items ≡ text.old.items ++ links_of n start i) }
+    ensures text { (start : _) → seed ≡ seed_after start (i + 1) →
+        OnOk result (text.new.items ≡ text.old.items ++ links_of n start i) }
 {
     if i + 1 < n {
         put_atom(text, b"link", b"p", i, i + 1)?;

@@ -7,7 +7,8 @@ use pl_task::List;
 pub enum Kind {
     /// A chain of places, each linked to the next and to a drawn one: a shortest path is sought.
     Hop,
-    /// One schema with eight parameters over seven relations in a row: one step is applicable among very many assignments.
+    /// One schema with eight parameters over seven relations in a row: one step is applicable among very many
+    /// assignments.
     Wide,
 }
 

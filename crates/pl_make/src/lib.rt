@@ -1,6 +1,7 @@
 //! Large tasks made from a number, for a self-test on any machine.
 //!
-//! The texts are defined in `specs/Texts.antt`, byte by byte. Nothing here knows what a checker or a planner makes of them.
+//! The texts are defined in `specs/Texts.antt`, byte by byte. Nothing here knows what a checker or a planner
+//! makes of them.
 #![tactic(auto)]
 
 mod hop;

@@ -9,7 +9,8 @@ use crate::wide::{wide_domain, wide_problem};
 use pl_task::List;
 use std::alloc::{AllocError, Global};
 
-/// The domain and the problem of the kind, in size `n`: places of a chain, or objects a block of the wide join.
+/// The domain and the problem of the kind, in size `n`: places of a chain, or objects a block of the wide
+/// join.
 ///
 /// A chain's links are drawn from `start`; the wide join does not use it.
 pub fn make(alloc: Global, kind: Kind, n: u32, start: u64) -> Result<Made, AllocError>

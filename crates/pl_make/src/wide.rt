@@ -3,7 +3,9 @@
 ghost use Rattle.std.specs.Prelude.{◌≡◌, ◌++◌, ◌+◌, ◌*◌, ◌≤◌, ◌<◌, ◌^◌, length, codes, IfOk, OnOk};
 ghost use Rattle.std.specs.List.{flat_map};
 ghost use Rattle.pl_task.specs.Types.{numbers_below};
-ghost use Rattle.pl_make.specs.Texts.{wide_domain as wide_domain_text, wide_problem as wide_problem_text, pairs_text, relation_text, last_relation_text, atom_line, relation_name};
+ghost use Rattle.pl_make.specs.Texts.{wide_domain as wide_domain_text, wide_problem as wide_problem_text};
+ghost use Rattle.pl_make.specs.Texts.{pairs_text, relation_text, last_relation_text, atom_line};
+ghost use Rattle.pl_make.specs.Texts.{relation_name};
 
 use crate::writing::{put_names, put_number};
 use std::alloc::{AllocError, Global};
@@ -36,7 +38,8 @@ pub fn wide_problem(alloc: Global, n: u32) -> Result<Vec<u8>, AllocError>
 #[tactic(auto, using(crate::proofs::Numbers::pieces))]
 fn put_relations(text: &mut Vec<u8>, n: u32) -> Result<(), AllocError>
     requires few { n ≤ 100 }
-    ensures text { OnOk result (text.new.items ≡ text.old.items ++ flat_map (λ i. relation_text n (i + 1)) (numbers_below 6)) }
+    ensures text { OnOk result (text.new.items ≡ text.old.items ++
+        flat_map (λ i. relation_text n (i + 1)) (numbers_below 6)) }
 {
     for k in 0..6 {
         put_relation(text, n, k + 1)?;
@@ -87,7 +90,8 @@ fn put_pairs_of(
     right: u32,
 ) -> Result<(), AllocError>
     requires right { right + n < 2 ^ 32 }
-    ensures text { OnOk result (text.new.items ≡ text.old.items ++ flat_map (λ j. atom_line (relation_name k) (codes "o") object (right + j)) (numbers_below n)) }
+    ensures text { OnOk result (text.new.items ≡ text.old.items ++
+        flat_map (λ j. atom_line (relation_name k) (codes "o") object (right + j)) (numbers_below n)) }
 {
     for j in 0..n {
         put_pair(text, k, object, right + j)?;
@@ -97,7 +101,8 @@ fn put_pairs_of(
 
 /// Appends the line of a pair of relation `k`.
 fn put_pair(text: &mut Vec<u8>, k: u32, left: u32, right: u32) -> Result<(), AllocError>
-    ensures text { OnOk result (text.new.items ≡ text.old.items ++ atom_line (relation_name k) (codes "o") left right) }
+    ensures text { OnOk result (text.new.items ≡ text.old.items ++ atom_line (relation_name k)
+        (codes "o") left right) }
 {
     text.extend_from_slice(b"(r")?;
     put_number(text, k)?;

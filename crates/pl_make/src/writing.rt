@@ -36,7 +36,8 @@ pub fn put_atom(
     left: u32,
     right: u32,
 ) -> Result<(), AllocError>
-    ensures text { OnOk result (text.new.items ≡ text.old.items ++ atom_line predicate.now letter.now left right) }
+    ensures text { OnOk result (text.new.items ≡ text.old.items ++ atom_line predicate.now
+        letter.now left right) }
 {
     text.extend_from_slice(b"(")?;
     text.extend_from_slice(predicate)?;

@@ -1,10 +1,14 @@
 -- First appearances: how they grow, and the numbers of occurrences among them.
-use Rattle.std.proofs.Common.{◌≡◌, ◌≢◌, ◌+◌, ◌-◌, ◌<◌, ◌≤◌, ◌↔◌, ◌⊎◌, ◌&&◌, ◌||◌, ℕ, zero, suc, Bool, true, false, not, cond, List, [], ◌∷◌, ◌++◌, length, map, take, get_or, nat_lt, Option, Some, None, option_map, slice_get, refl, sym, ◌∙◌, subst, ap, inl, inr, arith, Contains, All, filter, append-nil, Bor}
+use Rattle.std.proofs.Common.{◌≡◌, ◌≢◌, ◌+◌, ◌-◌, ◌<◌, ◌≤◌, ◌↔◌, ◌⊎◌, ◌&&◌, ◌||◌, ℕ, zero, suc, Bool, true}
+use Rattle.std.proofs.Common.{false, not, cond, List, [], ◌∷◌, ◌++◌, length, map, take, get_or, nat_lt}
+use Rattle.std.proofs.Common.{Option, Some, None, option_map, slice_get, refl, sym, ◌∙◌, subst, ap, inl, inr}
+use Rattle.std.proofs.Common.{arith, Contains, All, filter, append-nil, Bor}
 use Rattle.std.specs.Option.{is_some}
 use Rattle.std.specs.Str.{bytes_eq}
 use Rattle.std.proofs.lemmas.Bool.{cases_lt, cases_Bool, false≢true}
 use Rattle.std.proofs.lemmas.Bool.Decides.{nat_tests}
-use Rattle.std.proofs.lemmas.List.{length-append, length-map, get_or_append_left, length-take, get_or_push, get_or_read, get_or-map, same_lists, map_push, take_more, take_all}
+use Rattle.std.proofs.lemmas.List.{length-append, length-map, get_or_append_left, length-take, get_or_push}
+use Rattle.std.proofs.lemmas.List.{get_or_read, get_or-map, same_lists, map_push, take_more, take_all}
 use Rattle.std.proofs.lemmas.List.Elements.{filter-append, filter_passes}
 use Rattle.std.proofs.lemmas.List.Kept.{AllPairs-cons, AllPairs-filter}
 use Rattle.std.specs.List.{AllPairs}
@@ -19,7 +23,10 @@ Names = List (List ℕ)
 
 -- ---- filters
 
-filter_of_filter_cons : (p q : List ℕ → Bool) (x : List ℕ) (xs : Names) (b : Bool) → q x ≡ b → filter p (filter q xs) ≡ filter (λ y. q y && p y) xs → filter p (cond b (x ∷ filter q xs) (filter q xs)) ≡ cond (b && p x) (x ∷ filter (λ y. q y && p y) xs) (filter (λ y. q y && p y) xs)
+filter_of_filter_cons : (p q : List ℕ → Bool) (x : List ℕ) (xs : Names) (b : Bool) → q x ≡ b →
+    filter p (filter q xs) ≡ filter (λ y. q y && p y) xs →
+    filter p (cond b (x ∷ filter q xs) (filter q xs)) ≡ cond (b && p x) (x ∷ filter (λ y. q y && p y) xs)
+    (filter (λ y. q y && p y) xs)
 filter_of_filter_cons p q x xs true e next = ap (λ zs. cond (p x) (x ∷ zs) zs) next
 filter_of_filter_cons p q x xs false e next = next
 
@@ -48,20 +55,25 @@ not_either true false = refl
 not_either false true = refl
 not_either false false = refl
 
-firsts-append : (xs ys : Names) → first_appearances (xs ++ ys) ≡ first_appearances xs ++ filter (λ y. not (member xs y)) (first_appearances ys)
+firsts-append : (xs ys : Names) → first_appearances (xs ++ ys) ≡ first_appearances xs ++
+    filter (λ y. not (member xs y)) (first_appearances ys)
 firsts-append [] ys = sym (filter_all (first_appearances ys))
 firsts-append (x ∷ xs) ys =
     ap (λ zs. x ∷ filter (λ y. not (bytes_eq y x)) zs) (firsts-append xs ys)
-    ∙ ap (λ zs. x ∷ zs) (filter-append (λ y. not (bytes_eq y x)) (first_appearances xs) (filter (λ y. not (member xs y)) (first_appearances ys))
+    ∙ ap (λ zs. x ∷ zs) (filter-append (λ y. not (bytes_eq y x)) (first_appearances xs)
+    (filter (λ y. not (member xs y)) (first_appearances ys))
     ∙ ap (λ zs. filter (λ y. not (bytes_eq y x)) (first_appearances xs) ++ zs)
     (filter_of_filter (λ y. not (bytes_eq y x)) (λ y. not (member xs y)) (first_appearances ys)
-    ∙ filter_same (λ y. not (member xs y) && not (bytes_eq y x)) (λ y. not (bytes_eq y x || member xs y)) (first_appearances ys) (λ y. not_either (member xs y) (bytes_eq y x))))
+    ∙ filter_same (λ y. not (member xs y) && not (bytes_eq y x)) (λ y. not (bytes_eq y x || member xs y))
+    (first_appearances ys) (λ y. not_either (member xs y) (bytes_eq y x))))
 
 -- one that is among the names adds nothing, and one that isn't is added at the end
-pub firsts_again : (xs : Names) (name : List ℕ) → member xs name ≡ true → first_appearances (xs ++ name ∷ []) ≡ first_appearances xs
+pub firsts_again : (xs : Names) (name : List ℕ) → member xs name ≡ true →
+    first_appearances (xs ++ name ∷ []) ≡ first_appearances xs
 firsts_again xs name h = firsts-append xs (name ∷ []) ∙ (rw h (append-nil (first_appearances xs)))
 
-pub firsts_more : (xs : Names) (name : List ℕ) → member xs name ≡ false → first_appearances (xs ++ name ∷ []) ≡ first_appearances xs ++ name ∷ []
+pub firsts_more : (xs : Names) (name : List ℕ) → member xs name ≡ false →
+    first_appearances (xs ++ name ∷ []) ≡ first_appearances xs ++ name ∷ []
 firsts_more xs name h = firsts-append xs (name ∷ []) ∙ (rw h refl)
 
 -- ---- places
@@ -92,7 +104,8 @@ get_at_end [] name = refl
 get_at_end (x ∷ xs) name = get_at_end xs name
 
 -- a name that stands somewhere has a number, and stands nowhere before it
-has_number : (xs : Names) (name : List ℕ) (k : ℕ) → slice_get xs k ≡ Some name → number_among xs name ≡ None → ⊥
+has_number : (xs : Names) (name : List ℕ) (k : ℕ) → slice_get xs k ≡ Some name →
+    number_among xs name ≡ None → ⊥
 has_number [] name k s h = cc
 has_number (x ∷ xs) name zero s h =
     let e : x ≡ name = cc in
@@ -100,7 +113,8 @@ has_number (x ∷ xs) name zero s h =
     cc
 has_number (x ∷ xs) name (suc k) s h = by_test (λ n. has_number xs name k s n) (cases_Bool (bytes_eq x name))
   where
-    rest_none : (r : Option ℕ) → number_among xs name ≡ r → option_map suc r ≡ None → number_among xs name ≡ None
+    rest_none : (r : Option ℕ) → number_among xs name ≡ r → option_map suc r ≡ None →
+        number_among xs name ≡ None
     rest_none None e n = e
     rest_none (Some m) e n = cc
 
@@ -108,17 +122,24 @@ has_number (x ∷ xs) name (suc k) s h = by_test (λ n. has_number xs name k s n
     by_test next (inl t) = let some : ◌≡◌ {A = Option ℕ} (Some 0) None = rw t at h in cc
     by_test next (inr f) = next (rest_none (number_among xs name) refl (rw f at h))
 
-not_before : (xs : Names) (name : List ℕ) (k m : ℕ) → number_among xs name ≡ Some k → m < k → slice_get xs m ≡ Some name → ⊥
+not_before : (xs : Names) (name : List ℕ) (k m : ℕ) → number_among xs name ≡ Some k → m < k →
+    slice_get xs m ≡ Some name → ⊥
 not_before [] name k m h l s = cc
-not_before (x ∷ xs) name k m h l s = by_test (λ k' m' h' l' s'. not_before xs name k' m' h' l' s') (cases_Bool (bytes_eq x name))
+not_before (x ∷ xs) name k m h l s = by_test (λ k' m' h' l' s'. not_before xs name k' m' h' l' s')
+    (cases_Bool (bytes_eq x name))
   where
-    at_rest : ((k' m' : ℕ) → number_among xs name ≡ Some k' → m' < k' → slice_get xs m' ≡ Some name → ⊥) → bytes_eq x name ≡ false → (r : Option ℕ) → number_among xs name ≡ r → option_map suc r ≡ Some k → (m' : ℕ) → m' ≡ m → slice_get (x ∷ xs) m' ≡ Some name → ⊥
+    at_rest : ((k' m' : ℕ) → number_among xs name ≡ Some k' → m' < k' → slice_get xs m' ≡ Some name → ⊥) →
+        bytes_eq x name ≡ false → (r : Option ℕ) → number_among xs name ≡ r → option_map suc r ≡ Some k →
+        (m' : ℕ) → m' ≡ m → slice_get (x ∷ xs) m' ≡ Some name → ⊥
     at_rest next f None e n m' is s' = cc
-    at_rest next f (Some k') e n zero is s' = let same : x ≡ name = cc in false≢true (sym f ∙ same_name x name same)
+    at_rest next f (Some k') e n zero is s' = let same : x ≡ name = cc in
+        false≢true (sym f ∙ same_name x name same)
     at_rest next f (Some k') e n (suc m') is s' = let up : suc k' ≡ k = cc in next k' m' e (omega arith) s'
 
-    by_test : ((k' m' : ℕ) → number_among xs name ≡ Some k' → m' < k' → slice_get xs m' ≡ Some name → ⊥) → (bytes_eq x name ≡ true) ⊎ (bytes_eq x name ≡ false) → ⊥
-    by_test next (inl t) = let zero_is : ◌≡◌ {A = Option ℕ} (Some 0) (Some k) = rw t at h in let z : 0 ≡ k = cc in absurd (omega arith)
+    by_test : ((k' m' : ℕ) → number_among xs name ≡ Some k' → m' < k' → slice_get xs m' ≡ Some name → ⊥) →
+        (bytes_eq x name ≡ true) ⊎ (bytes_eq x name ≡ false) → ⊥
+    by_test next (inl t) = let zero_is : ◌≡◌ {A = Option ℕ} (Some 0) (Some k) = rw t at h in
+        let z : 0 ≡ k = cc in absurd (omega arith)
     by_test next (inr f) = at_rest next f (number_among xs name) refl (rw f at h) m refl s
 
 -- what is said of an earlier place
@@ -126,7 +147,8 @@ earlier_is : (r : Option ℕ) (i first : ℕ) → if_before i r ≡ Some first �
 earlier_is None i first h = cc
 earlier_is (Some n) i first h = by_test (cases_Bool (nat_lt n i))
   where
-    by_test : (nat_lt n i ≡ true) ⊎ (nat_lt n i ≡ false) → (◌≡◌ {A = Option ℕ} (Some n) (Some first)) × (first < i)
+    by_test : (nat_lt n i ≡ true) ⊎ (nat_lt n i ≡ false) → (◌≡◌ {A = Option ℕ} (Some n) (Some first)) ×
+        (first < i)
     by_test (inl t) =
         let e : ◌≡◌ {A = Option ℕ} (Some n) (Some first) = rw t at h in
         let same : n ≡ first = cc in
@@ -134,7 +156,8 @@ earlier_is (Some n) i first h = by_test (cases_Bool (nat_lt n i))
         (e, omega arith)
     by_test (inr f) = let none : ◌≡◌ {A = Option ℕ} None (Some first) = rw f at h in cc
 
-no_earlier : (xs : Names) (i : ℕ) (name : List ℕ) (k : ℕ) → earlier xs name i ≡ None → k < i → slice_get xs k ≡ Some name → ⊥
+no_earlier : (xs : Names) (i : ℕ) (name : List ℕ) (k : ℕ) → earlier xs name i ≡ None → k < i →
+    slice_get xs k ≡ Some name → ⊥
 no_earlier xs i name k e l s = by_number (number_among xs name) refl e
   where
     by_number : (r : Option ℕ) → number_among xs name ≡ r → if_before i r ≡ None → ⊥
@@ -148,7 +171,8 @@ no_earlier xs i name k e l s = by_number (number_among xs name) refl e
     ]
 
 -- where no place has the name, it isn't among the names
-pub not_member : (xs : Names) (name : List ℕ) → ((k : ℕ) → slice_get xs k ≡ Some name → ⊥) → member xs name ≡ false
+pub not_member : (xs : Names) (name : List ℕ) → ((k : ℕ) → slice_get xs k ≡ Some name → ⊥) →
+    member xs name ≡ false
 not_member [] name no_place = refl
 not_member (x ∷ xs) name no_place =
     let here : bytes_eq name x ≡ false = other_name name x (λ e. no_place 0 (ap (λ y. Some y) (sym e))) in
@@ -160,7 +184,8 @@ pub no_number : (xs : Names) (name : List ℕ) → member xs name ≡ false → 
 no_number xs name h = none_is xs name (λ m k. false≢true (sym h ∙ member_at xs name m k))
 
 -- a number stays, whatever names follow
-pub number_front : (xs ys : Names) (name : List ℕ) (k : ℕ) → number_among xs name ≡ Some k → number_among (xs ++ ys) name ≡ Some k
+pub number_front : (xs ys : Names) (name : List ℕ) (k : ℕ) → number_among xs name ≡ Some k →
+    number_among (xs ++ ys) name ≡ Some k
 number_front xs ys name k h =
     let stands : slice_get xs k ≡ Some name = number_place xs name k h in
     let within : k < length xs = slice_get_within xs k name stands in
@@ -168,20 +193,24 @@ number_front xs ys name k h =
     (λ m l s. not_before xs name k m h l (sym (get_in_front xs ys m (omega (arith, within))) ∙ s))
 
 -- and the name that follows has the next number
-pub number_new : (xs : Names) (name : List ℕ) → number_among xs name ≡ None → number_among (xs ++ name ∷ []) name ≡ Some (length xs)
+pub number_new : (xs : Names) (name : List ℕ) → number_among xs name ≡ None →
+    number_among (xs ++ name ∷ []) name ≡ Some (length xs)
 number_new xs name h =
     least_is (xs ++ name ∷ []) name (length xs) (get_at_end xs name)
     (λ m l s. has_number xs name m (sym (get_in_front xs (name ∷ []) m l) ∙ s) h)
 
 -- ---- the names are just those that appear
 
-member_filter_cons : (q : List ℕ → Bool) (y : List ℕ) (ys : Names) (name : List ℕ) → q name ≡ true → (b : Bool) → q y ≡ b → member (filter q ys) name ≡ member ys name → member (cond b (y ∷ filter q ys) (filter q ys)) name ≡ (bytes_eq name y || member ys name)
+member_filter_cons : (q : List ℕ → Bool) (y : List ℕ) (ys : Names) (name : List ℕ) → q name ≡ true →
+    (b : Bool) → q y ≡ b → member (filter q ys) name ≡ member ys name →
+    member (cond b (y ∷ filter q ys) (filter q ys)) name ≡ (bytes_eq name y || member ys name)
 member_filter_cons q y ys name h true e next = ap (λ b. bytes_eq name y || b) next
 member_filter_cons q y ys name h false e next =
     let differs : bytes_eq name y ≡ false = other_name name y (λ s. false≢true (sym e ∙ ap q (sym s) ∙ h)) in
     rw differs next
 
-member_filter : (q : List ℕ → Bool) (ys : Names) (name : List ℕ) → q name ≡ true → member (filter q ys) name ≡ member ys name
+member_filter : (q : List ℕ → Bool) (ys : Names) (name : List ℕ) → q name ≡ true →
+    member (filter q ys) name ≡ member ys name
 member_filter q [] name h = refl
 member_filter q (y ∷ ys) name h = member_filter_cons q y ys name h (q y) refl (member_filter q ys name h)
 
@@ -189,7 +218,9 @@ pub member_firsts : (xs : Names) (name : List ℕ) → member (first_appearances
 member_firsts [] name = refl
 member_firsts (x ∷ xs) name = by_test (cases_Bool (bytes_eq name x)) (member_firsts xs name)
   where
-    by_test : (bytes_eq name x ≡ true) ⊎ (bytes_eq name x ≡ false) → member (first_appearances xs) name ≡ member xs name → member (first_appearances (x ∷ xs)) name ≡ member (x ∷ xs) name
+    by_test : (bytes_eq name x ≡ true) ⊎ (bytes_eq name x ≡ false) →
+        member (first_appearances xs) name ≡ member xs name →
+        member (first_appearances (x ∷ xs)) name ≡ member (x ∷ xs) name
     by_test (inl t) next = rw t refl
     by_test (inr f) next =
         let passes : not (bytes_eq name x) ≡ true = rw f refl in
@@ -204,18 +235,29 @@ pub record AreNumberedUpTo (occurrences : Names) (i : ℕ) (names : Names) (numb
   pub each : (k : ℕ) → k < i → number_among names (get_or occurrences k []) ≡ Some (get_or numbers k 0)
 
 pub numbered_none : (occurrences : Names) → AreNumberedUpTo occurrences 0 [] []
-numbered_none occurrences = record { names_are = refl; count = refl; few = omega arith; each = λ k l. absurd (omega arith) }
+numbered_none occurrences = record {
+  names_are = refl;
+  count = refl;
+  few = omega arith;
+  each = λ k l. absurd (omega arith);
+}
 
 -- what the next occurrence is
-taken_more : (occurrences : Names) (i : ℕ) (name : List ℕ) → slice_get occurrences i ≡ Some name → take (i + 1) occurrences ≡ take i occurrences ++ name ∷ []
+taken_more : (occurrences : Names) (i : ℕ) (name : List ℕ) → slice_get occurrences i ≡ Some name →
+    take (i + 1) occurrences ≡ take i occurrences ++ name ∷ []
 taken_more occurrences i name h =
     let within : i < length occurrences = slice_get_within occurrences i name h in
-    take_more occurrences i [] within ∙ ap (λ x. take i occurrences ++ x ∷ []) (get_or_from_slice_get occurrences i name [] h)
+    take_more occurrences i [] within ∙
+    ap (λ x. take i occurrences ++ x ∷ []) (get_or_from_slice_get occurrences i name [] h)
 
 -- a name that appeared has the number of its first occurrence
-pub numbered_again : (occurrences : Names) (i : ℕ) (names : Names) (numbers : List ℕ) (name : List ℕ) (first number : ℕ) → slice_get occurrences i ≡ Some name → Some first ≡ earlier occurrences name i → number ≡ get_or numbers first number → AreNumberedUpTo occurrences i names numbers → AreNumberedUpTo occurrences (i + 1) names (numbers ++ number ∷ [])
+pub numbered_again : (occurrences : Names) (i : ℕ) (names : Names) (numbers : List ℕ) (name : List ℕ)
+    (first number : ℕ) → slice_get occurrences i ≡ Some name → Some first ≡ earlier occurrences name i →
+    number ≡ get_or numbers first number → AreNumberedUpTo occurrences i names numbers →
+    AreNumberedUpTo occurrences (i + 1) names (numbers ++ number ∷ [])
 numbered_again occurrences i names numbers name first number here e read up = record {
-  names_are = up.names_are ∙ sym (ap first_appearances (taken_more occurrences i name here) ∙ firsts_again (take i occurrences) name appeared);
+  names_are = up.names_are ∙ sym (ap first_appearances (taken_more occurrences i name here) ∙
+      firsts_again (take i occurrences) name appeared);
   count = length-append numbers (number ∷ []) ∙ (rw up.count refl);
   few = omega (arith, up.few);
   each = each;
@@ -233,24 +275,35 @@ numbered_again occurrences i names numbers name first number here e read up = re
     number_is : number_among names name ≡ Some number
     number_is =
         let old = up.each first known.1 in
-        let name_is : get_or occurrences first [] ≡ name = get_or_from_slice_get occurrences first name [] stands in
-        let reads : get_or numbers first 0 ≡ number = sym (get_or_read numbers first number (omega (arith, up.count, known.1)) read 0) in
+        let name_is : get_or occurrences first [] ≡ name =
+        get_or_from_slice_get occurrences first name [] stands in
+        let reads : get_or numbers first 0 ≡ number =
+        sym (get_or_read numbers first number (omega (arith, up.count, known.1)) read 0) in
         rw (name_is, reads) at old
 
-    each : (k : ℕ) → k < i + 1 → number_among names (get_or occurrences k []) ≡ Some (get_or (numbers ++ number ∷ []) k 0)
+    each : (k : ℕ) → k < i + 1 → number_among names (get_or occurrences k []) ≡ Some
+        (get_or (numbers ++ number ∷ []) k 0)
     each k l = elim (cases_lt k i) [
-      | inl lt ↦ up.each k lt ∙ ap (λ n. Some n) (sym (get_or_append_left numbers (number ∷ []) 0 k (omega (arith, up.count))))
+      | inl lt ↦ up.each k lt ∙ ap (λ n. Some n)
+          (sym (get_or_append_left numbers (number ∷ []) 0 k (omega (arith, up.count))))
       | inr ge ↦ (
           let last : k ≡ i = omega arith in
-          let name_is : get_or occurrences k [] ≡ name = ap (λ n. get_or occurrences n []) last ∙ get_or_from_slice_get occurrences i name [] here in
-          let reads : get_or (numbers ++ number ∷ []) k 0 ≡ number = get_or_push numbers number 0 k (up.count ∙ sym last) in
+          let name_is : get_or occurrences k [] ≡ name = ap (λ n. get_or occurrences n []) last ∙
+          get_or_from_slice_get occurrences i name [] here in
+          let reads : get_or (numbers ++ number ∷ []) k 0 ≡ number = get_or_push numbers number 0 k
+          (up.count ∙ sym last) in
           rw (name_is, reads) number_is)
     ]
 
 -- a name that didn't appear is the next one
-pub numbered_more : (occurrences : Names) (i : ℕ) (names : Names) (numbers : List ℕ) (name : List ℕ) → slice_get occurrences i ≡ Some name → earlier occurrences name i ≡ None → AreNumberedUpTo occurrences i names numbers → AreNumberedUpTo occurrences (i + 1) (names ++ name ∷ []) (numbers ++ length names ∷ [])
+pub numbered_more : (occurrences : Names) (i : ℕ) (names : Names) (numbers : List ℕ) (name : List ℕ) →
+    slice_get occurrences i ≡ Some name → earlier occurrences name i ≡ None →
+    AreNumberedUpTo occurrences i names numbers →
+    AreNumberedUpTo occurrences (i + 1) (names ++ name ∷ []) (numbers ++ length names ∷ [])
 numbered_more occurrences i names numbers name here e up = record {
-  names_are = ap (λ xs. xs ++ name ∷ []) up.names_are ∙ sym (ap first_appearances (taken_more occurrences i name here) ∙ firsts_more (take i occurrences) name new);
+  names_are = ap (λ xs. xs ++ name ∷ []) up.names_are ∙
+      sym (ap first_appearances (taken_more occurrences i name here) ∙
+      firsts_more (take i occurrences) name new);
   count = length-append numbers (length names ∷ []) ∙ (rw up.count refl);
   few = omega (arith, up.few, length-append names (name ∷ []));
   each = each;
@@ -258,61 +311,96 @@ numbered_more occurrences i names numbers name here e up = record {
   where
     new : member (take i occurrences) name ≡ false
     new = not_member (take i occurrences) name (λ k s.
-        let within : k < i = omega (arith, slice_get_within (take i occurrences) k name s, length-take i occurrences) in
+        let within : k < i = omega (
+          arith,
+          slice_get_within (take i occurrences) k name s,
+          length-take i occurrences,
+        ) in
         no_earlier occurrences i name k e within (sym (get_in_take occurrences i k within) ∙ s))
 
     none : number_among names name ≡ None
-    none = no_number names name (ap (λ xs. member xs name) up.names_are ∙ member_firsts (take i occurrences) name ∙ new)
+    none = no_number names name (ap (λ xs. member xs name) up.names_are ∙
+        member_firsts (take i occurrences) name ∙ new)
 
-    each : (k : ℕ) → k < i + 1 → number_among (names ++ name ∷ []) (get_or occurrences k []) ≡ Some (get_or (numbers ++ length names ∷ []) k 0)
+    each : (k : ℕ) → k < i + 1 → number_among (names ++ name ∷ []) (get_or occurrences k []) ≡ Some
+        (get_or (numbers ++ length names ∷ []) k 0)
     each k l = elim (cases_lt k i) [
-      | inl lt ↦ number_front names (name ∷ []) (get_or occurrences k []) (get_or numbers k 0) (up.each k lt) ∙ ap (λ n. Some n) (sym (get_or_append_left numbers (length names ∷ []) 0 k (omega (arith, up.count))))
+      | inl lt ↦ number_front names (name ∷ []) (get_or occurrences k []) (get_or numbers k 0)
+          (up.each k lt) ∙ ap (λ n. Some n) (sym (get_or_append_left numbers (length names ∷ []) 0 k
+          (omega (arith, up.count))))
       | inr ge ↦ (
           let last : k ≡ i = omega arith in
-          let name_is : get_or occurrences k [] ≡ name = ap (λ n. get_or occurrences n []) last ∙ get_or_from_slice_get occurrences i name [] here in
-          let reads : get_or (numbers ++ length names ∷ []) k 0 ≡ length names = get_or_push numbers (length names) 0 k (up.count ∙ sym last) in
+          let name_is : get_or occurrences k [] ≡ name = ap (λ n. get_or occurrences n []) last ∙
+          get_or_from_slice_get occurrences i name [] here in
+          let reads : get_or (numbers ++ length names ∷ []) k 0 ≡ length names =
+          get_or_push numbers (length names) 0 k (up.count ∙ sym last) in
           rw (name_is, reads) (number_new names name none))
     ]
 
 -- when all are numbered
-pub numbered_all : (occurrences : Names) (i : ℕ) (names : List (Bor (List ℕ))) (numbers : List ℕ) → length occurrences ≤ i → AreNumberedUpTo occurrences i (texts names) numbers → i ≤ length occurrences → AreNumbered occurrences names numbers
-numbered_all occurrences i names numbers past up within = record { names_are = names_are; numbers_are = numbers_are }
+pub numbered_all : (occurrences : Names) (i : ℕ) (names : List (Bor (List ℕ))) (numbers : List ℕ) →
+    length occurrences ≤ i → AreNumberedUpTo occurrences i (texts names) numbers → i ≤ length occurrences →
+    AreNumbered occurrences names numbers
+numbered_all occurrences i names numbers past up within = record {
+  names_are = names_are;
+  numbers_are = numbers_are;
+}
   where
     names_are : texts names ≡ first_appearances occurrences
     names_are = up.names_are ∙ ap first_appearances (take_all i occurrences past)
 
-    same_length : length (map Some numbers) ≡ length (map (number_among (first_appearances occurrences)) occurrences)
-    same_length = length-map numbers (λ (n : ℕ). Some n) ∙ up.count ∙ (let e : i ≡ length occurrences = omega arith in e) ∙ sym (length-map occurrences (number_among (first_appearances occurrences)))
+    same_length : length (map Some numbers) ≡ length
+        (map (number_among (first_appearances occurrences)) occurrences)
+    same_length = length-map numbers (λ (n : ℕ). Some n) ∙ up.count ∙
+        (let e : i ≡ length occurrences = omega arith in e) ∙
+        sym (length-map occurrences (number_among (first_appearances occurrences)))
 
     numbers_are : map Some numbers ≡ map (number_among (first_appearances occurrences)) occurrences
-    numbers_are = same_lists (map Some numbers) (map (number_among (first_appearances occurrences)) occurrences) same_length (λ k d l.
+    numbers_are = same_lists (map Some numbers) (map (number_among (first_appearances occurrences))
+        occurrences) same_length (λ k d l.
         let l' : k < length numbers = omega (arith, length-map numbers (λ (n : ℕ). Some n)) in
         get_or-map (λ (n : ℕ). Some n) numbers k 0 d l'
         ∙ sym (up.each k (omega (arith, up.count)))
         ∙ ap (λ xs. number_among xs (get_or occurrences k [])) names_are
-        ∙ sym (get_or-map (number_among (first_appearances occurrences)) occurrences k [] d (omega (arith, up.count))))
+        ∙ sym (get_or-map (number_among (first_appearances occurrences)) occurrences k [] d
+        (omega (arith, up.count))))
 
 -- ---- a look-up among the distinct names, through the occurrences
 
-pub numbered_within : (occurrences : Names) (names : List (Bor (List ℕ))) (numbers : List ℕ) (name : List ℕ) (first : ℕ) → AreNumbered occurrences names numbers → Some first ≡ number_among occurrences name → first < length numbers
+pub numbered_within : (occurrences : Names) (names : List (Bor (List ℕ))) (numbers : List ℕ) (name : List ℕ)
+    (first : ℕ) → AreNumbered occurrences names numbers → Some first ≡ number_among occurrences name →
+    first < length numbers
 numbered_within occurrences names numbers name first are e =
     let within = slice_get_within occurrences first name (number_place occurrences name first (sym e)) in
-    omega (arith, within, length-map numbers (λ (n : ℕ). Some n), length-map occurrences (number_among (first_appearances occurrences)), ap length are.numbers_are)
+    omega (
+      arith,
+      within,
+      length-map numbers (λ (n : ℕ). Some n),
+      length-map occurrences
+          (number_among (first_appearances occurrences)),
+      ap length are.numbers_are,
+    )
 
-pub number_of_first : (occurrences : Names) (names : List (Bor (List ℕ))) (numbers : List ℕ) (name : List ℕ) (first number : ℕ) → AreNumbered occurrences names numbers → Some first ≡ number_among occurrences name → number ≡ get_or numbers first number → Some number ≡ number_among (first_appearances occurrences) name
+pub number_of_first : (occurrences : Names) (names : List (Bor (List ℕ))) (numbers : List ℕ) (name : List ℕ)
+    (first number : ℕ) → AreNumbered occurrences names numbers → Some first ≡ number_among occurrences name →
+    number ≡ get_or numbers first number → Some number ≡ number_among (first_appearances occurrences) name
 number_of_first occurrences names numbers name first number are e read =
     let stands : slice_get occurrences first ≡ Some name = number_place occurrences name first (sym e) in
     let within : first < length occurrences = slice_get_within occurrences first name stands in
-    let within_numbers : first < length numbers = numbered_within occurrences names numbers name first are e in
+    let within_numbers : first < length numbers = numbered_within occurrences names
+    numbers name first are e in
     ap (λ n. Some n) (get_or_read numbers first number within_numbers read 0)
     ∙ sym (get_or-map (λ (n : ℕ). Some n) numbers first 0 None within_numbers)
     ∙ ap (λ xs. get_or xs first None) are.numbers_are
     ∙ get_or-map (number_among (first_appearances occurrences)) occurrences first [] None within
-    ∙ ap (number_among (first_appearances occurrences)) (get_or_from_slice_get occurrences first name [] stands)
+    ∙ ap (number_among (first_appearances occurrences))
+    (get_or_from_slice_get occurrences first name [] stands)
 
-pub no_first : (occurrences : Names) (name : List ℕ) → None ≡ number_among occurrences name → None ≡ number_among (first_appearances occurrences) name
+pub no_first : (occurrences : Names) (name : List ℕ) → None ≡ number_among occurrences name →
+    None ≡ number_among (first_appearances occurrences) name
 no_first occurrences name e =
-    let absent : member occurrences name ≡ false = not_member occurrences name (λ k s. has_number occurrences name k s (sym e)) in
+    let absent : member occurrences name ≡ false = not_member occurrences name
+    (λ k s. has_number occurrences name k s (sym e)) in
     sym (no_number (first_appearances occurrences) name (member_firsts occurrences name ∙ absent))
 
 -- ---- the loop's steps, in what its calls say
@@ -321,20 +409,46 @@ no_first occurrences name e =
 abbrev pub no_name : Bor (List ℕ)
 no_name = record { ref_ptr = (0, 0); now = [] }
 
-text_at : (items : List (Bor (List ℕ))) (i : ℕ) → i < length items → slice_get (texts items) i ≡ Some (get_or items i no_name).now
-text_at items i l = slice_get-map (λ (name : Bor (List ℕ)). name.now) items i ∙ ap (option_map (λ (name : Bor (List ℕ)). name.now)) (slice_get-get_or items i no_name l)
+text_at : (items : List (Bor (List ℕ))) (i : ℕ) → i < length items →
+    slice_get (texts items) i ≡ Some (get_or items i no_name).now
+text_at items i l = slice_get-map (λ (name : Bor (List ℕ)). name.now) items i ∙
+    ap (option_map (λ (name : Bor (List ℕ)). name.now)) (slice_get-get_or items i no_name l)
 
-pub step_again : (items names names' : List (Bor (List ℕ))) (occurrences : Names) (numbers numbers' : List ℕ) (i first number found : ℕ) (r : Option ℕ) → texts items ≡ occurrences → i < length items → r ≡ earlier occurrences (get_or items i no_name).now i → r ≡ Some first → number ≡ found → found ≡ get_or numbers first found → names' ≡ names → numbers' ≡ numbers ++ number ∷ [] → AreNumberedUpTo (texts items) i (texts names) numbers → AreNumberedUpTo (texts items) (i + 1) (texts names') numbers'
-step_again items names names' occurrences numbers numbers' i first number found r same l e s is_found read names_is numbers_is up =
-    let known : Some first ≡ earlier (texts items) (get_or items i no_name).now i = sym s ∙ e ∙ ap (λ xs. earlier xs (get_or items i no_name).now i) (sym same) in
-    rw (names_is, numbers_is, is_found) (numbered_again (texts items) i (texts names) numbers (get_or items i no_name).now first found (text_at items i l) known read up)
+pub step_again : (items names names' : List (Bor (List ℕ))) (occurrences : Names) (numbers numbers' : List ℕ)
+    (i first number found : ℕ) (r : Option ℕ) → texts items ≡ occurrences → i < length items →
+    r ≡ earlier occurrences (get_or items i no_name).now i → r ≡ Some first → number ≡ found →
+    found ≡ get_or numbers first found → names' ≡ names → numbers' ≡ numbers ++ number ∷ [] →
+    AreNumberedUpTo (texts items) i (texts names) numbers →
+    AreNumberedUpTo (texts items) (i + 1) (texts names') numbers'
+step_again items names names' occurrences numbers numbers' i first number found r same l e s is_found read
+    names_is numbers_is up =
+    let known : Some first ≡ earlier (texts items) (get_or items i no_name).now i = sym s ∙ e ∙
+    ap (λ xs. earlier xs (get_or items i no_name).now i) (sym same) in
+    rw (names_is, numbers_is, is_found) (numbered_again (texts items) i (texts names) numbers
+    (get_or items i no_name).now first found (text_at items i l) known read up)
 
-pub step_more : (items names names' : List (Bor (List ℕ))) (occurrences : Names) (numbers numbers' : List ℕ) (i number : ℕ) (r : Option ℕ) → texts items ≡ occurrences → i < length items → r ≡ earlier occurrences (get_or items i no_name).now i → r ≡ None → names' ≡ names ++ get_or items i no_name ∷ [] → number ≡ length names' - 1 → numbers' ≡ numbers ++ number ∷ [] → AreNumberedUpTo (texts items) i (texts names) numbers → AreNumberedUpTo (texts items) (i + 1) (texts names') numbers'
-step_more items names names' occurrences numbers numbers' i number r same l e s names_is number_is numbers_is up =
-    let unknown : earlier (texts items) (get_or items i no_name).now i ≡ None = ap (λ xs. earlier xs (get_or items i no_name).now i) same ∙ sym e ∙ s in
-    let text_is : texts names' ≡ texts names ++ (get_or items i no_name).now ∷ [] = ap texts names_is ∙ map_push (λ (name : Bor (List ℕ)). name.now) names (get_or items i no_name) in
-    let count : number ≡ length (texts names) = omega (arith, number_is, ap length names_is, length-append names (get_or items i no_name ∷ []), length-map names (λ (name : Bor (List ℕ)). name.now)) in
-    rw (text_is, numbers_is, count) (numbered_more (texts items) i (texts names) numbers (get_or items i no_name).now (text_at items i l) unknown up)
+pub step_more : (items names names' : List (Bor (List ℕ))) (occurrences : Names) (numbers numbers' : List ℕ)
+    (i number : ℕ) (r : Option ℕ) → texts items ≡ occurrences → i < length items →
+    r ≡ earlier occurrences (get_or items i no_name).now i → r ≡ None →
+    names' ≡ names ++ get_or items i no_name ∷ [] → number ≡ length names' - 1 →
+    numbers' ≡ numbers ++ number ∷ [] → AreNumberedUpTo (texts items) i (texts names) numbers →
+    AreNumberedUpTo (texts items) (i + 1) (texts names') numbers'
+step_more items names names' occurrences numbers numbers' i number r same l e s names_is
+    number_is numbers_is up =
+    let unknown : earlier (texts items) (get_or items i no_name).now i ≡ None =
+    ap (λ xs. earlier xs (get_or items i no_name).now i) same ∙ sym e ∙ s in
+    let text_is : texts names' ≡ texts names ++ (get_or items i no_name).now ∷ [] = ap texts names_is ∙
+    map_push (λ (name : Bor (List ℕ)). name.now) names (get_or items i no_name) in
+    let count : number ≡ length (texts names) =
+    omega (
+      arith,
+      number_is,
+      ap length names_is,
+      length-append names (get_or items i no_name ∷ []),
+      length-map names (λ (name : Bor (List ℕ)). name.now),
+    ) in
+    rw (text_is, numbers_is, count) (numbered_more (texts items) i (texts names) numbers
+    (get_or items i no_name).now (text_at items i l) unknown up)
 
 -- ---- the first appearances are just the names
 
@@ -342,7 +456,8 @@ member_contains : (xs : Names) (name : List ℕ) → member xs name ≡ true →
 member_contains [] name h = absurd (false≢true h)
 member_contains (x ∷ xs) name h = by_test (λ n. member_contains xs name n) (cases_Bool (bytes_eq name x))
   where
-    by_test : (member xs name ≡ true → Contains xs name) → (bytes_eq name x ≡ true) ⊎ (bytes_eq name x ≡ false) → Contains (x ∷ xs) name
+    by_test : (member xs name ≡ true → Contains xs name) → (bytes_eq name x ≡ true) ⊎
+        (bytes_eq name x ≡ false) → Contains (x ∷ xs) name
     by_test next (inl t) = (0, omega arith, sym ((bytes_eq-Decides name x).0 t))
     by_test next (inr f) = let at = next (rw f at h) in (suc at.0, omega (arith, at.1), at.2)
 
@@ -355,7 +470,9 @@ firsts_are_names xs name = (
   λ c. member_contains (first_appearances xs) name (member_firsts xs name ∙ contains_member xs name c),
 )
 
-pub numbered_from : (items : List (Bor (List ℕ))) (occurrences : Names) (i : ℕ) (names : List (Bor (List ℕ))) (numbers : List ℕ) → texts items ≡ occurrences → length items ≤ i → i ≤ length items → AreNumberedUpTo (texts items) i (texts names) numbers → AreNumbered occurrences names numbers
+pub numbered_from : (items : List (Bor (List ℕ))) (occurrences : Names) (i : ℕ) (names : List (Bor (List ℕ)))
+    (numbers : List ℕ) → texts items ≡ occurrences → length items ≤ i → i ≤ length items →
+    AreNumberedUpTo (texts items) i (texts names) numbers → AreNumbered occurrences names numbers
 numbered_from items occurrences i names numbers same past within up =
     let count : length (texts items) ≡ length items = length-map items (λ (name : Bor (List ℕ)). name.now) in
     rw (← same) (numbered_all (texts items) i names numbers (omega arith) up (omega arith))
@@ -372,10 +489,14 @@ firsts_differ (x ∷ xs) =
     differs y t e = false≢true (sym (ap not (same_name y x (sym e))) ∙ t)
 
     others : All (λ y. x ≢ y) (filter (λ y. not (bytes_eq y x)) (first_appearances xs))
-    others k d l = differs (get_or (filter (λ y. not (bytes_eq y x)) (first_appearances xs)) k d) (filter_passes (λ y. not (bytes_eq y x)) (first_appearances xs) k d l)
+    others k d l = differs (get_or (filter (λ y. not (bytes_eq y x)) (first_appearances xs)) k d)
+        (filter_passes (λ y. not (bytes_eq y x)) (first_appearances xs) k d l)
 
 -- each of them has its own place as its number
-pub number_of_place : (xs : Names) (k : ℕ) → k < length (first_appearances xs) → number_among (first_appearances xs) (get_or (first_appearances xs) k []) ≡ Some k
+pub number_of_place : (xs : Names) (k : ℕ) → k < length (first_appearances xs) →
+    number_among (first_appearances xs) (get_or (first_appearances xs) k []) ≡ Some k
 number_of_place xs k l =
-    least_is (first_appearances xs) (get_or (first_appearances xs) k []) k (slice_get-get_or (first_appearances xs) k [] l)
-    (λ m lt s. firsts_differ xs m k [] lt l (get_or_from_slice_get (first_appearances xs) m (get_or (first_appearances xs) k []) [] s))
+    least_is (first_appearances xs) (get_or (first_appearances xs) k []) k
+    (slice_get-get_or (first_appearances xs) k [] l)
+    (λ m lt s. firsts_differ xs m k [] lt l
+    (get_or_from_slice_get (first_appearances xs) m (get_or (first_appearances xs) k []) [] s))

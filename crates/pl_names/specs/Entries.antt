@@ -1,5 +1,8 @@
--- How a list of names is indexed: an entry for each place, in order of keys, and a directory by the keys' first bits.
-use Rattle.std.specs.Prelude.{◌≡◌, ◌+◌, ◌-◌, ◌/◌, ◌<◌, ◌≤◌, ◌==◌, ◌^◌, ℕ, Bool, true, false, cond, nat_lt, List, length, All, Option, Some, None, IsTrue, slice_get, slice_index, slice_index_or, map, []}
+-- How a list of names is indexed: an entry for each place, in order of keys, and a directory by the keys'
+-- first bits.
+use Rattle.std.specs.Prelude.{◌≡◌, ◌+◌, ◌-◌, ◌/◌, ◌<◌, ◌≤◌, ◌==◌, ◌^◌, ℕ, Bool, true, false, cond, nat_lt}
+use Rattle.std.specs.Prelude.{List, length, All, Option, Some, None, IsTrue, slice_get, slice_index}
+use Rattle.std.specs.Prelude.{slice_index_or, map, []}
 use Rattle.std.specs.declared.cmp.Ordering.{Ordering}
 use Rattle.std.specs.Borrow.{Bor}
 use Rattle.std.specs.Cmp.Lexicographic.{slice_cmp}
@@ -18,7 +21,8 @@ key_of name = folding.finish (folding.write folding.initial name)
 -- the order of entries: by key, then by name, then by number
 abbrev pub rank : Entry → Entry → Ordering
 rank a b =
-    ordering_then (nat_cmp a.key b.key) (ordering_then (slice_cmp nat_cmp a.name.now b.name.now) (nat_cmp a.number b.number))
+    ordering_then (nat_cmp a.key b.key) (ordering_then (slice_cmp nat_cmp a.name.now b.name.now)
+    (nat_cmp a.number b.number))
 
 -- an entry is of a place in the list: the place's number, its name and the name's key
 pub record IsEntryOf (names : List (List ℕ)) (entry : Entry) : Type 0 where
@@ -37,7 +41,8 @@ no_entry = record { key = 0; name = record { ref_ptr = (0, 0); now = [] }; numbe
 
 -- the entry is below those of a key and a name
 abbrev pub is_below : ℕ → List ℕ → Entry → Bool
-is_below key name entry = is_lt (ordering_then (nat_cmp entry.key key) (slice_cmp nat_cmp entry.name.now name))
+is_below key name entry = is_lt (ordering_then (nat_cmp entry.key key)
+    (slice_cmp nat_cmp entry.name.now name))
 
 -- the entries before `low` pass a test, and those from `high` on don't
 pub record IsNarrowed (passes : Entry → Bool) (entries : List Entry) (low high : ℕ) : Type 0 where
@@ -48,7 +53,8 @@ pub record IsNarrowed (passes : Entry → Bool) (entries : List Entry) (low high
 abbrev pub begins_below : ℕ → ℕ → Entry → Bool
 begins_below shift part entry = nat_lt (entry.key / 2 ^ shift) part
 
--- for each number up to one more than the greatest first bits: how many entries have keys with lesser first bits
+-- for each number up to one more than the greatest first bits: how many entries have keys with lesser first
+-- bits
 pub record IsDirectory (entries : List Entry) (shift : ℕ) (starts : List ℕ) : Type 0 where
   pub long : length starts ≡ (2 ^ 64 - 1) / 2 ^ shift + 2
   pub starts_at : (part : ℕ) → part < length starts → slice_index starts part ≤ length entries
@@ -65,14 +71,16 @@ number_at entries place name =
     cond (nat_lt place (length entries)) (number_if (slice_index_or entries place no_entry) name) None
 
 -- what an index of a list of names keeps
-pub record AreIndexed (list : List (Bor (List ℕ))) (entries : List Entry) (shift : ℕ) (starts : List ℕ) : Type 0 where
+pub record AreIndexed (list : List (Bor (List ℕ))) (entries : List Entry) (shift : ℕ) (starts : List ℕ) :
+    Type 0 where
   pub few : length list < 2 ^ 32
   pub shift_fits : shift < 64
   pub entries_are : AreEntriesOf (texts list) entries
   pub directory : IsDirectory entries shift starts
 
 -- what the names by first appearance keep: the names, and for each occurrence its number among them
-pub record AreNumbered (occurrences : List (List ℕ)) (names : List (Bor (List ℕ))) (numbers : List ℕ) : Type 0 where
+pub record AreNumbered (occurrences : List (List ℕ)) (names : List (Bor (List ℕ))) (numbers : List ℕ) :
+    Type 0 where
   pub names_are : texts names ≡ first_appearances occurrences
   pub numbers_are : map Some numbers ≡ map (number_among (first_appearances occurrences)) occurrences
 

@@ -15,7 +15,8 @@ pub fn shift_for(count: usize) -> u32
     (count as u64).leading_zeros().clamp(1, 63)
 }
 
-/// For each number up to one more than the greatest first bits: how many entries have keys with lesser first bits.
+/// For each number up to one more than the greatest first bits: how many entries have keys with lesser first
+/// bits.
 pub fn directory(alloc: Global, entries: &[Entry<'_>], shift: u32) -> Result<Vec<u32>, AllocError>
     requires some { 0 < shift }
     requires fits { shift < 64 }
@@ -34,7 +35,8 @@ pub fn directory(alloc: Global, entries: &[Entry<'_>], shift: u32) -> Result<Vec
     Ok(starts)
 }
 
-/// How many entries have keys whose first bits are below the part, where those before `place` are known to have.
+/// How many entries have keys whose first bits are below the part, where those before `place` are known to
+/// have.
 fn first_from(entries: &[Entry<'_>], shift: u32, part: u64, mut place: usize) -> usize
     requires shift { shift < 64 }
     requires ordered { IsSorted rank entries.now }

@@ -8,10 +8,12 @@ use crate::entries::{Entry, bisect, entries_of, key_of, number_at};
 use std::alloc::{AllocError, Global};
 use std::marker::Model;
 
-/// Names that are known by their places in a list. A name that stands there twice has the first of its places.
+/// Names that are known by their places in a list. A name that stands there twice has the first of its
+/// places.
 ///
-/// A look-up hashes the name, goes to the few entries whose keys begin alike, and bisects those. Most look-ups compare
-/// bytes once. Names that are chosen so that all keys are equal cost a bisection by bytes, and never a walk.
+/// A look-up hashes the name, goes to the few entries whose keys begin alike, and bisects those. Most
+/// look-ups compare bytes once. Names that are chosen so that all keys are equal cost a bisection by bytes,
+/// and never a walk.
 #[derive(Drop)]
 pub struct Names<'a> {
     list: Vec<&'a [u8]>,
@@ -29,7 +31,8 @@ impl<'a> Model for Names<'a> {
 
     ghost view = { λ names. texts names.list.items };
 
-    ghost invariant = { λ names. AreIndexed names.list.items names.entries.items names.shift names.starts.items };
+    ghost invariant = { λ names. AreIndexed names.list.items names.entries.items
+        names.shift names.starts.items };
 }
 
 impl<'a> Names<'a> {

@@ -7,8 +7,8 @@ use std::sync::ledger::{Blank, Book, Ledger, Share};
 
 /// How many probes were taken. It takes no bytes, and only `tick` changes it.
 ///
-/// A call that counts takes `steps: &mut Steps<L>` last, for any ledger `L`. A caller that counts nothing calls a
-/// function that is given `Blank::new(1)` for its ledger, and makes its `Steps` from it.
+/// A call that counts takes `steps: &mut Steps<L>` last, for any ledger `L`. A caller that counts nothing
+/// calls a function that is given `Blank::new(1)` for its ledger, and makes its `Steps` from it.
 #[derive(Drop)]
 pub struct Steps<L: Ledger> {
     book: Book<L>,

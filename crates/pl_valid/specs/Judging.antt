@@ -31,9 +31,11 @@ HasValues count (literal.NotEqual a b) = HasValue count a × HasValue count b
 abbrev pub pair_cmp : ℕ × ℕ → ℕ × ℕ → Ordering
 pair_cmp p q = ordering_then (nat_cmp p.0 q.0) (nat_cmp p.1 q.1)
 
--- each answer in the table, by object and type, is right, and each example of a type is an object that was declared with it alone
+-- each answer in the table, by object and type, is right, and each example of a type is an object that was
+-- declared with it alone
 pub record KnowsTypes (task : Task) (table : TypeTable) : Type 0 where
-  pub answers : (object type_number : ℕ) (answer : Bool) → get pair_cmp table.known (object, type_number) ≡ Some answer →
+  pub answers : (object type_number : ℕ) (answer : Bool) →
+      get pair_cmp table.known (object, type_number) ≡ Some answer →
       IsTrue answer ↔ HasType task object type_number
   pub alike : (declared object : ℕ) → get nat_cmp table.alike declared ≡ Some object →
       (d : ObjectDef) × (slice_get task.objects object ≡ Some d) × (d.types ≡ declared ∷ [])

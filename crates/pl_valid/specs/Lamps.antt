@@ -19,14 +19,21 @@ lamp = record { name = []; types = 0 ∷ [] }
 
 -- any lamp is lit
 abbrev pub light : Schema
-light = record { name = []; parameters = lamp ∷ []; condition = []; delete = []; add = on (term.Parameter 0) ∷ [] }
+light = record {
+  name = [];
+  parameters = lamp ∷ [];
+  condition = [];
+  delete = [];
+  add = on (term.Parameter 0) ∷ [];
+}
 
 -- a lit lamp goes out, and another one is lit
 abbrev pub pass : Schema
 pass = record {
   name = [];
   parameters = lamp ∷ lamp ∷ [];
-  condition = literal.Atom (on (term.Parameter 0)) ∷ literal.NotEqual (term.Parameter 0) (term.Parameter 1) ∷ [];
+  condition = literal.Atom (on (term.Parameter 0)) ∷ literal.NotEqual (term.Parameter 0)
+      (term.Parameter 1) ∷ [];
   delete = on (term.Parameter 0) ∷ [];
   add = on (term.Parameter 1) ∷ [];
 }

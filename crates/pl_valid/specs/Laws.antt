@@ -7,4 +7,5 @@ use Rattle.pl_valid.specs.Verdict.{IsVerdict}
 
 -- a list of lines has one verdict at most
 abbrev pub VerdictIsOne : Task → Type 0
-VerdictIsOne task = (lines : List PlanLine) (v w : Verdict) → IsVerdict task lines v → IsVerdict task lines w → v ≡ w
+VerdictIsOne task = (lines : List PlanLine) (v w : Verdict) → IsVerdict task lines v →
+    IsVerdict task lines w → v ≡ w

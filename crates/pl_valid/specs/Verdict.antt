@@ -23,8 +23,8 @@ IsRefused task s line.UnknownAction why = why ≡ reason.UnknownAction
 IsRefused task s line.Arguments why = why ≡ reason.Arguments
 IsRefused task s line.UnknownObject why = why ≡ reason.UnknownObject
 
--- the lines are steps that are executed from the initial state, then a line that is refused in the state that they lead to,
--- whose number from 1 is given, then any others
+-- the lines are steps that are executed from the initial state, then a line that is refused in the state that
+-- they lead to, whose number from 1 is given, then any others
 pub record IsFirstRefused (task : Task) (lines : List PlanLine) (number : ℕ) (why : Reason) : Type 0 where
   pub before : List Instance
   pub at : PlanLine
@@ -45,6 +45,7 @@ pub record IsMissed (task : Task) (lines : List PlanLine) : Type 0 where
 
 -- valid: the lines are the steps of a plan, and so many
 abbrev pub IsVerdict : Task → List PlanLine → Verdict → Type 0
-IsVerdict task lines (verdict.Valid n) = (n ≡ length lines) × ((steps : List Instance) × (lines ≡ map line.Step steps) × IsPlan task steps)
+IsVerdict task lines (verdict.Valid n) = (n ≡ length lines) ×
+    ((steps : List Instance) × (lines ≡ map line.Step steps) × IsPlan task steps)
 IsVerdict task lines (verdict.Invalid number why) = IsFirstRefused task lines number why
 IsVerdict task lines verdict.GoalMissed = IsMissed task lines

@@ -33,7 +33,8 @@ pub fn hold_all(
     condition: &[Literal],
 ) -> Result<bool, AllocError>
     requires { All (HasValues (length args.now)) condition.now }
-    ensures { IfOk result (λ answer. IsTrue answer ↔ All (λ l. IsTrue (is_met (state_of atoms.now.keys) args.now l)) condition.now) }
+    ensures { IfOk result (λ answer. IsTrue answer ↔
+        All (λ l. IsTrue (is_met (state_of atoms.now.keys) args.now l)) condition.now) }
 {
     for literal in condition {
         if !literal_holds(alloc, atoms, args, literal)? {

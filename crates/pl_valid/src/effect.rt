@@ -72,7 +72,8 @@ fn delete_all(
     effects: &[Lifted],
 ) -> Result<(), AllocError>
     requires { All (λ (a : Lifted). All (HasValue (length args.now)) a.terms) effects.now }
-    ensures { OnOk result (state_of atoms.new.keys ≡ changed (state_of atoms.old.keys) (map (atom_at args.now) effects.now) []) }
+    ensures { OnOk result (state_of atoms.new.keys ≡ changed (state_of atoms.old.keys)
+        (map (atom_at args.now) effects.now) []) }
 {
     for effect in effects {
         delete(atoms, &grounded(alloc, args, effect)?);
@@ -88,7 +89,8 @@ fn add_all(
     effects: &[Lifted],
 ) -> Result<(), AllocError>
     requires { All (λ (a : Lifted). All (HasValue (length args.now)) a.terms) effects.now }
-    ensures { OnOk result (state_of atoms.new.keys ≡ changed (state_of atoms.old.keys) [] (map (atom_at args.now) effects.now)) }
+    ensures { OnOk result (state_of atoms.new.keys ≡ changed (state_of atoms.old.keys) []
+        (map (atom_at args.now) effects.now)) }
 {
     for effect in effects {
         add(atoms, grounded(alloc, args, effect)?)?;

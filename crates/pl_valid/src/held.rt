@@ -69,7 +69,8 @@ impl Eq for Held {
 impl Hash for Held {
     ghost hash_input = { λ a. fed.u32 a.predicate ++ fed.slice fed.u32 a.objects };
 
-    ghost respects_eq = { λ a b h. ap (λ (x : AtomOf). fed.u32 x.predicate ++ fed.slice fed.u32 x.objects) (same_atom a b h) };
+    ghost respects_eq = { λ a b h. ap (λ (x : AtomOf). fed.u32 x.predicate ++ fed.slice fed.u32 x.objects)
+        (same_atom a b h) };
 
     #[inline]
     fn hash<H: Hasher>(&self, state: &mut H) {

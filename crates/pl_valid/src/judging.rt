@@ -13,8 +13,9 @@ use std::alloc::{AllocError, Global};
 
 /// The verdict on the lines of a plan, which are executed in turn from the initial state.
 ///
-/// `Invalid` names the first line, counted from 1, that is no step or is not applicable after the lines before it.
-/// A line takes a look-up by hash for each literal of its step. The error says that memory ran out.
+/// `Invalid` names the first line, counted from 1, that is no step or is not applicable after the lines
+/// before it. A line takes a look-up by hash for each literal of its step. The error says that memory ran
+/// out.
 pub fn judge(alloc: Global, task: &Task, lines: &[PlanLine]) -> Result<Verdict, AllocError>
     requires few { length lines.now ≤ 2 ^ 24 }
     requires lines { All (IsLineOf task.now) lines.now }

@@ -53,7 +53,8 @@ fn is_applicable(
 ) -> Result<bool, AllocError>
     requires step { IsStep task.now step.now }
     requires types { KnowsTypes task.now types.old }
-    ensures decides { IfOk result (λ answer. IsTrue answer ↔ IsApplicable task.now (state_of atoms.now.keys) step.now) }
+    ensures decides { IfOk result (λ answer. IsTrue answer ↔
+        IsApplicable task.now (state_of atoms.now.keys) step.now) }
     ensures types { OnOk result (KnowsTypes task.now types.new) }
 {
     let step = step.view();

@@ -143,7 +143,10 @@ fn to_pass(alloc: Global) -> Result<Schema, AllocError>
 }
 
 fn wanted(alloc: Global, number: u32, wanted: bool) -> Result<GoalLiteral, AllocError>
-    ensures { IfOk result (λ g. g ≡ record { atom = record { predicate = 0; objects = number ∷ [] }; wanted = wanted }) }
+    ensures { IfOk result (λ g. g ≡ record {
+      atom = record { predicate = 0; objects = number ∷ [] };
+      wanted = wanted;
+    }) }
 {
     let objects = List::of(vec![in alloc; number]?);
     let atom = Atom {

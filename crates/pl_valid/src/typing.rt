@@ -10,8 +10,8 @@ use pl_task::{Parameter, Task};
 use std::alloc::{AllocError, Global};
 use std::collections::BTreeMap;
 
-/// What was asked of the types of a task. A question costs a walk over the parents once: its answer is kept for all
-/// objects that were declared with the same one type.
+/// What was asked of the types of a task. A question costs a walk over the parents once: its answer is kept
+/// for all objects that were declared with the same one type.
 #[derive(Drop)]
 pub struct TypeTable {
     /// The answers, by object and type.
@@ -56,7 +56,8 @@ impl TypeTable {
         Ok(answer)
     }
 
-    /// An object with the same types: one for all objects that were declared with one type and the same, else the object.
+    /// An object with the same types: one for all objects that were declared with one type and the same, else
+    /// the object.
     fn representative(&mut self, task: &Task, object: u32) -> Result<u32, AllocError>
         requires object { object < length task.now.objects }
         requires known { KnowsTypes task.now self.old }
@@ -108,7 +109,8 @@ impl TypeTable {
     ) -> Result<bool, AllocError>
         requires many { length args.now ≡ length parameters.now }
         requires within { All (λ o. o < length task.now.objects) args.now }
-        requires types { All (λ (p : ParameterOf). All (λ t. t < length task.now.types) p.types) parameters.now }
+        requires types { All (λ (p : ParameterOf). All (λ t. t < length task.now.types) p.types)
+            parameters.now }
         requires known { KnowsTypes task.now self.old }
         ensures decides { IfOk result (λ answer. IsTrue answer ↔ AreTyped task.now parameters.now args.now) }
         ensures known { OnOk result (KnowsTypes task.now self.new) }

@@ -25,6 +25,7 @@ pub enum Reason {
     Arguments,
     /// An argument names no object.
     UnknownObject,
-    /// The line is a step, and an argument lacks the parameter's type or a literal of the precondition is false.
+    /// The line is a step, and an argument lacks the parameter's type or a literal of the precondition is
+    /// false.
     Inapplicable,
 }

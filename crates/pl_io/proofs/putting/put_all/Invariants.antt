@@ -8,7 +8,8 @@ abbrev pub invariant-loop-done : goal.invariant-loop-done
 invariant-loop-done g l =
     record {
       within : l.done ≤ length l.bytes;
-      written : Appends (g.O.Sink.seen l.fn.sink).written (g.O.Sink.seen l.sink).written (take l.done l.bytes);
+      written : Appends (g.O.Sink.seen l.fn.sink).written
+          (g.O.Sink.seen l.sink).written (take l.done l.bytes);
       told : SameTelling (g.O.Sink.seen l.fn.sink).written (g.O.Sink.seen l.sink).written;
       later : (g.O.Sink.seen l.fn.sink).faults ≤ (g.O.Sink.seen l.sink).faults;
       empty : length l.bytes ≡ 0 → l.sink ≡ l.fn.sink;

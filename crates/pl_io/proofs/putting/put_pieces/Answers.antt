@@ -1,17 +1,14 @@
 use Rattle.std.proofs.Common.{◌∙◌, ◌<◌, length, arith, Result, Ok, Err, OnErr}
 use Rattle.pl_io.proofs.Parts.{Appends-joined, AppendsFront-joined, joined-empty}
 use Rattle.pl_io.proofs.putting.put_pieces.Goals as goal
-
--- what holds anyway holds at an error
-on_err : {T E P : Type 0} (result : Result T E) → P → OnErr result P
-on_err (Ok x) p = tt
-on_err (Err e) p = p
+use Rattle.pl_io.proofs.Gathering.{on_err}
 
 pub returns-in_err-put_all-clause-front : goal.returns-in_err-put_all-clause-front
 returns-in_err-put_all-clause-front g c =
     let here : c.loop-piece.piece-index < length c.args.pieces.now = omega (arith, c.loop-piece-test.true) in
     on_err c.from_residual.result
-    (AppendsFront-joined _ _ _ c.args.pieces.now _ _ here c.loop-piece.invariant.written c.in_err-put_all.ensures.front)
+    (AppendsFront-joined _ _ _ c.args.pieces.now _ _ here c.loop-piece.invariant.written
+    c.in_err-put_all.ensures.front)
 
 pub returns-in_err-put_all-clause-empty : goal.returns-in_err-put_all-clause-empty
 returns-in_err-put_all-clause-empty g c none =

@@ -5,4 +5,5 @@ use Rattle.pl_make.specs.Texts.{atom_line, relation_name}
 use Rattle.pl_make.proofs.wide.put_pairs_of.Given as goal
 
 abbrev pub invariant-loop-j : goal.invariant-loop-j
-invariant-loop-j l = l.text.items ≡ l.fn.text.items ++ flat_map (λ j. atom_line (relation_name l.k) (codes "o") l.object (l.right + j)) (numbers_below l.j)
+invariant-loop-j l = l.text.items ≡ l.fn.text.items ++
+    flat_map (λ j. atom_line (relation_name l.k) (codes "o") l.object (l.right + j)) (numbers_below l.j)

@@ -5,4 +5,5 @@ use Rattle.pl_make.specs.Texts.{relation_text}
 use Rattle.pl_make.proofs.wide.put_relations.Given as goal
 
 abbrev pub invariant-loop-k : goal.invariant-loop-k
-invariant-loop-k l = l.text.items ≡ l.fn.text.items ++ flat_map (λ i. relation_text l.n (i + 1)) (numbers_below l.k)
+invariant-loop-k l = l.text.items ≡ l.fn.text.items ++
+    flat_map (λ i. relation_text l.n (i + 1)) (numbers_below l.k)

@@ -7,5 +7,7 @@ use Rattle.pl_names.proofs.directory.first_from.Goals as goal
 pub returns-else-entries-place-clause-narrowed : goal.returns-else-entries-place-clause-narrowed
 returns-else-entries-place-clause-narrowed c =
     let from = c.if-entries-place.false in
-    let fails : begins_below c.args.shift c.args.part (get_or c.args.entries.now c.loop-place.place no_entry) ≡ false = grind (arith, nat_tests) in
-    narrowed_down (begins_below c.args.shift c.args.part) (begins_down c.args.shift c.args.part) c.args.entries.now _ _ c.loop-place.place c.requires.ordered fails c.loop-place.invariant.narrowed
+    let fails : begins_below c.args.shift c.args.part (get_or c.args.entries.now c.loop-place.place no_entry)
+    ≡ false = grind (arith, nat_tests) in
+    narrowed_down (begins_below c.args.shift c.args.part) (begins_down c.args.shift c.args.part)
+    c.args.entries.now _ _ c.loop-place.place c.requires.ordered fails c.loop-place.invariant.narrowed

@@ -1,4 +1,5 @@
-use Rattle.std.proofs.Common.{◌≡◌, ◌++◌, ◌∙◌, ℕ, List, Some, length, take, drop, sym, ap, arith, length-take, length-drop, length-append}
+use Rattle.std.proofs.Common.{◌≡◌, ◌++◌, ◌∙◌, ℕ, List, Some, length, take, drop, sym, ap, arith, length-take}
+use Rattle.std.proofs.Common.{length-drop, length-append}
 use Rattle.std.specs.Prelude.{Option}
 use Rattle.std.proofs.lemmas.List.{take_at}
 use Rattle.pl_io.specs.declared.mem_shelf.MemShelf.{MemShelf}
@@ -16,12 +17,14 @@ returns-clause-bytes c =
     let shelf = c.fails.new.self in
     let count = c.min-count.result in
     let left = c.left-left.result.now in
-    let before : left_in c.args.self.now ≡ Some left = sym (ap left_in c.fails.ensures.same) ∙ c.left-left.ensures in
+    let before : left_in c.args.self.now ≡ Some left = sym (ap left_in c.fails.ensures.same) ∙
+    c.left-left.ensures in
     let full : length c.copy_from_slice.new.self ≡ count =
     omega (arith, c.copy_from_slice.ensures.len, c.min-count.ensures, c.min.ensures, length-take {A = ℕ}) in
     let given : take count (c.copy_from_slice.new.self ++ drop count c.args.buffer.now) ≡ take count left =
     take_at _ _ count full ∙ c.copy_from_slice.ensures.after in (
-      Consumes-left_of (left_in c.args.self.now) (Some (files_of shelf)) (current_of shelf) (place_of shelf) count left _
+      Consumes-left_of (left_in c.args.self.now) (Some (files_of shelf)) (current_of shelf)
+          (place_of shelf) count left _
           before c.left-left.ensures given,
       λ none room.
           let nothing : length left ≡ 0 = omega (
@@ -35,5 +38,6 @@ returns-clause-bytes c =
             length-append {A = ℕ},
             length-drop {A = ℕ},
           ) in
-          IsAtEnd-left_of (Some (files_of shelf)) (current_of shelf) (place_of shelf) count left c.left-left.ensures nothing,
+          IsAtEnd-left_of (Some (files_of shelf)) (current_of shelf) (place_of shelf) count left
+          c.left-left.ensures nothing,
     )

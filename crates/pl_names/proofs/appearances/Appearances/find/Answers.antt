@@ -5,12 +5,16 @@ use Rattle.pl_names.proofs.appearances.Appearances.find.Goals as goal
 
 pub index-requires : goal.index-requires
 index-requires c =
-    let within = numbered_within c.self.inside.occurrences c.self.inside.names.items c.self.inside.numbers.items c.args.name.now c.in-Some.first c.self.invariant (sym c.in-Some.is ∙ c.find.ensures) in
+    let within = numbered_within c.self.inside.occurrences c.self.inside.names.items
+    c.self.inside.numbers.items c.args.name.now c.in-Some.first c.self.invariant
+    (sym c.in-Some.is ∙ c.find.ensures) in
     search rules
 
 pub returns-in-Some : goal.returns-in-Some
 returns-in-Some c =
-    number_of_first c.self.inside.occurrences c.self.inside.names.items c.self.inside.numbers.items c.args.name.now c.in-Some.first c.index.result.now c.self.invariant (sym c.in-Some.is ∙ c.find.ensures) c.index.ensures
+    number_of_first c.self.inside.occurrences c.self.inside.names.items c.self.inside.numbers.items
+    c.args.name.now c.in-Some.first c.index.result.now c.self.invariant (sym c.in-Some.is ∙
+    c.find.ensures) c.index.ensures
     ∙ ap (λ xs. number_among (first_appearances xs) c.args.name.now) c.self.view_is
 
 pub returns-in-None : goal.returns-in-None

@@ -19,10 +19,13 @@ loop-i-preserved c = elim c.match-earlier.branch [
       c.in_ok-occurrences.occurrences c.loop-i.numbers.items c.push-in-loop-i.new.self.items c.loop-i.i
       c.match-earlier.number c.earlier.result
       c.names-name-items.ensures.names c.loop-i-test.true c.earlier.ensures w.in-None.is
-      (ap (λ v. v.items) w.names-is ∙ w.in_ok-push-in-None.ensures.items) count c.in_ok-push.ensures.items c.loop-i.invariant)
+      (ap (λ v. v.items) w.names-is ∙ w.in_ok-push-in-None.ensures.items) count
+      c.in_ok-push.ensures.items c.loop-i.invariant)
 ]
 
 pub invariant_of-result : goal.invariant_of-result
 invariant_of-result c =
-    numbered_from c.names-name-items.result.now c.in_ok-occurrences.occurrences c.loop-i.i c.loop-i.names.items
-    c.loop-i.numbers.items c.names-name-items.ensures.names c.loop-i-test.false c.loop-i.auto.i-end c.loop-i.invariant
+    numbered_from c.names-name-items.result.now c.in_ok-occurrences.occurrences
+    c.loop-i.i c.loop-i.names.items
+    c.loop-i.numbers.items c.names-name-items.ensures.names c.loop-i-test.false
+    c.loop-i.auto.i-end c.loop-i.invariant
