@@ -147,7 +147,8 @@ pub action_is : (text : List ℕ) (known : Known) (name : List ℕ) (list parame
     (first (pairs_faults (action_scope text known list) [] list) ≡ None) ×
     (schema ≡ schema_of text known name list)
 action_is text known name list parameters scope condition effect schema s p none c e is =
-    let condition_is : condition ≡ keyed_literals (action_scope text known list) (codes ":precondition") list =
+    let condition_is : condition ≡ keyed_literals (action_scope text known list)
+    (codes ":precondition") list =
     c ∙ ap (λ t. keyed_literals t (codes ":precondition") list) s in
     let effect_is : effect ≡ keyed_literals (action_scope text known list) (codes ":effect") list =
     e ∙ ap (λ t. keyed_literals t (codes ":effect") list) s in (

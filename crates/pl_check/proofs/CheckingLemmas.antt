@@ -1,5 +1,6 @@
 -- The check of two files: the faults of their forms, and the task that they state.
-use Rattle.std.proofs.Common.{◌≡◌, ◌+◌, ◌≤◌, inl, inr, ℕ, List, [], ◌∷◌, ◌++◌, map, length, Option, None, Some, Result, Ok, Err, All, codes, refl, sym, ap, ◌∙◌, subst, arith}
+use Rattle.std.proofs.Common.{◌≡◌, ◌+◌, ◌≤◌, inl, inr, ℕ, List, [], ◌∷◌, ◌++◌, map, length, Option, None}
+use Rattle.std.proofs.Common.{Some, Result, Ok, Err, All, codes, refl, sym, ap, ◌∙◌, subst, arith}
 use Rattle.std.specs.Prelude.{IfOk, IfErr}
 use Rattle.std.specs.List.{flat_map, filter_map}
 use Rattle.std.proofs.lemmas.List.{length-map}
@@ -182,9 +183,12 @@ parts_ok domain problem ds ps in_domain in_problem known schemas init goal dle p
     (sym same) made))
 
 -- the same for lists that are those of the sections
-pub listed_parts : (types types_in : List TypeDef) (objects objects_in : List ObjectDef) (predicates : List PredicateDef)
-    (schemas : List Schema) (init : List Atom) (goal : List GoalLiteral) → types ≡ types_in → objects ≡ objects_in →
-    AreParts types_in objects_in predicates schemas init goal → AreParts types objects predicates schemas init goal
+pub listed_parts : (types types_in : List TypeDef) (objects objects_in : List ObjectDef)
+    (predicates : List PredicateDef)
+    (schemas : List Schema) (init : List Atom) (goal : List GoalLiteral) →
+    types ≡ types_in → objects ≡ objects_in →
+    AreParts types_in objects_in predicates schemas init goal →
+    AreParts types objects predicates schemas init goal
 listed_parts types types_in objects objects_in predicates schemas init goal t o h =
     subst (λ x. AreParts x objects predicates schemas init goal) (sym t)
     (subst (λ x. AreParts types_in x predicates schemas init goal) (sym o) h)
@@ -198,20 +202,25 @@ pub states_parts : (domain problem : List ℕ) (ds ps in_domain in_problem : Lis
     objects ≡ stated_objects domain in_domain problem in_problem known →
     schemas ≡ map (stated_schema domain known) (sections_of domain (codes ":action") (sections ds)) →
     init ≡ map (ground_atom (problem_scope problem known)) (all_after problem (codes ":init") (sections ps)) →
-    goal ≡ flat_map (literals_of (problem_scope problem known)) (all_after problem (codes ":goal") (sections ps)) →
+    goal ≡ flat_map (literals_of (problem_scope problem known))
+    (all_after problem (codes ":goal") (sections ps)) →
     IsOfParts types objects (predicates_from schemas 0 known.predicates known.arities) schemas (once init)
     (filter_map wanted goal) task →
     StatesTask domain in_domain problem in_problem known task
-states_parts domain problem ds ps in_domain in_problem known types objects schemas init goal task d p t o s i g is = record {
-  types = is.types_are ∙ t;
-  objects = is.objects_are ∙ o;
-  predicates = is.predicates_are ∙ ap (λ x. predicates_from x 0 known.predicates known.arities) (sym is.schemas_are);
-  schemas = is.schemas_are ∙ s ∙ ap (λ x. map (stated_schema domain known) (sections_of domain (codes ":action") x)) (sym d);
-  init = is.init_is ∙ ap once (i ∙ ap (λ x. map (ground_atom (problem_scope problem known))
-      (all_after problem (codes ":init") x)) (sym p));
-  goal = is.goal_is ∙ ap (filter_map wanted) (g ∙ ap (λ x. flat_map (literals_of (problem_scope problem known))
-      (all_after problem (codes ":goal") x)) (sym p));
-}
+states_parts domain problem ds ps in_domain in_problem known types objects schemas init goal task d
+    p t o s i g is = record {
+      types = is.types_are ∙ t;
+      objects = is.objects_are ∙ o;
+      predicates = is.predicates_are ∙ ap (λ x. predicates_from x 0 known.predicates known.arities)
+          (sym is.schemas_are);
+      schemas = is.schemas_are ∙ s ∙ ap (λ x. map (stated_schema domain known)
+          (sections_of domain (codes ":action") x)) (sym d);
+      init = is.init_is ∙ ap once (i ∙ ap (λ x. map (ground_atom (problem_scope problem known))
+          (all_after problem (codes ":init") x)) (sym p));
+      goal = is.goal_is ∙ ap (filter_map wanted)
+          (g ∙ ap (λ x. flat_map (literals_of (problem_scope problem known))
+          (all_after problem (codes ":goal") x)) (sym p));
+    }
 
 pub checked : (domain problem : List ℕ) (ds ps in_domain in_problem : List Tree) (known : Known)
     (task : Task) →

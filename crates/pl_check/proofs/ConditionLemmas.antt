@@ -1,5 +1,6 @@
 -- Conditions over forms: what a list is, by its elements.
-use Rattle.std.proofs.Common.{◌≡◌, ◌==◌, not, true, false, cond, ◌+◌, length, arith, Option, None, Some, ℕ, Bool, List, [], ◌∷◌, ◌++◌, map, drop, refl, sym, ap, ◌∙◌, Vec, Global}
+use Rattle.std.proofs.Common.{◌≡◌, ◌==◌, not, true, false, cond, ◌+◌, length, arith, Option, None, Some, ℕ}
+use Rattle.std.proofs.Common.{Bool, List, [], ◌∷◌, ◌++◌, map, drop, refl, sym, ap, ◌∙◌, Vec, Global}
 use Rattle.std.specs.Prelude.{nat_lt, is_some}
 use Rattle.std.specs.List.{flat_map}
 use Rattle.std.proofs.lemmas.Bool.Decides.{nat_tests}
@@ -16,7 +17,9 @@ use Rattle.pl_check.specs.declared.reading.Fault.{Fault}
 use Rattle.pl_check.specs.Elements.{trees, is_list, word_of, place}
 use Rattle.pl_check.specs.FaultLists.{first, fault_if, or_inside}
 use Rattle.pl_check.specs.Terms.{Scope, head_by, head_of, basic_by, basic_faults, terms_faults}
-use Rattle.pl_check.specs.Conditions.{condition_by, condition_own, by_head, condition_faults, conjuncts_faults, is_connective, is_basic, counted, counted_all, left_of, precondition_faults}
+use Rattle.pl_check.specs.Conditions.{condition_by, condition_own, by_head, condition_faults}
+use Rattle.pl_check.specs.Conditions.{conjuncts_faults, is_connective, is_basic, counted, counted_all}
+use Rattle.pl_check.specs.Conditions.{left_of, precondition_faults}
 use Rattle.pl_check.specs.Literals.{literals_of, conjuncts_literals, negated, basic_literal, basic_literal_by}
 
 -- the faults of the elements of a conjunction, one after another
@@ -55,7 +58,8 @@ unfolding condition_own is_list head_of
 inner_faults scope equality span end = refl
 inner_faults scope equality span (more head rest) =
     ap (λ l. or_inside (condition_own scope equality (list span (more head rest)))
-    (by_head (head_of scope.text (head ∷ members rest)) l (flat_map (basic_faults scope equality) (members rest)) (terms_faults scope (members rest))))
+    (by_head (head_of scope.text (head ∷ members rest)) l
+    (flat_map (basic_faults scope equality) (members rest)) (terms_faults scope (members rest))))
     (conjuncts_each scope equality rest)
 
 inner_literals : (scope : Scope) (span : Span) (inner : Trees) →
@@ -63,12 +67,14 @@ inner_literals : (scope : Scope) (span : Span) (inner : Trees) →
 unfolding basic_literal head_of
 inner_literals scope span end = refl
 inner_literals scope span (more head rest) =
-    ap (λ l. by_head (head_of scope.text (head ∷ members rest)) l (map negated (flat_map (basic_literal scope) (members rest)))
+    ap (λ l. by_head (head_of scope.text (head ∷ members rest)) l
+    (map negated (flat_map (basic_literal scope) (members rest)))
     (basic_literal scope (list span (more head rest)))) (literals_each scope rest)
 
 -- the faults of a list of the program
 pub faults_of_list : (scope : Scope) (equality : Bool) (span : Span) (forms : Vec Form Global) →
-    condition_faults scope equality (tree_of (form.List span forms)) ≡ list_faults scope equality span.from (trees forms.items)
+    condition_faults scope equality (tree_of (form.List span forms)) ≡ list_faults scope equality
+    span.from (trees forms.items)
 faults_of_list scope equality span forms =
     ap (condition_faults scope equality) (tree_of_list span forms) ∙
     inner_faults scope equality span (trees_of forms.items) ∙
@@ -83,7 +89,8 @@ literals_of_list scope span forms =
     ap (list_literals scope) (members-trees_of forms.items)
 
 -- the faults of a form that was matched as a list with this head
-pub faults_by : (scope : Scope) (equality : Bool) (f : Form) (span : Span) (forms : Vec Form Global) (head : Head) →
+pub faults_by : (scope : Scope) (equality : Bool) (f : Form) (span : Span)
+    (forms : Vec Form Global) (head : Head) →
     f ≡ form.List span forms → head ≡ head_of scope.text (trees forms.items) →
     condition_faults scope equality (tree_of f) ≡
     or_inside (condition_by head scope equality span.from (trees forms.items))
@@ -146,7 +153,8 @@ simple_inner Equals h a b c = refl
 simple_inner Reserved h a b c = refl
 simple_inner Name h a b c = refl
 
-simple_faults : (scope : Scope) (equality : Bool) (at : ℕ) (forms : List Tree) (head : Head) → is_simple head ≡ true →
+simple_faults : (scope : Scope) (equality : Bool) (at : ℕ) (forms : List Tree) (head : Head) →
+    is_simple head ≡ true →
     (conjuncts negations terms : List Fault) →
     or_inside (condition_by head scope equality at forms) (by_head head conjuncts negations terms) ≡
     or_inside (basic_by head scope equality at forms) terms
@@ -167,15 +175,18 @@ trees_rest [] = refl
 trees_rest (f ∷ forms) = refl
 
 -- The same by a slice of the elements and a slice of those after the first, for each head.
-module _ (scope : Scope) (equality : Bool) (f : Form) (span : Span) (forms : Vec Form Global) (slice inner : List Form)
+module _ (scope : Scope) (equality : Bool) (f : Form) (span : Span) (forms : Vec Form Global)
+    (slice inner : List Form)
     (is : f ≡ form.List span forms) (same : slice ≡ forms.items) (after : inner ≡ drop 1 slice) where
   the_rest : trees inner ≡ drop 1 (trees forms.items)
   the_rest = ap trees after ∙ trees_rest slice ∙ ap (λ l. drop 1 (trees l)) same
 
-  begins : (head : Head) → head ≡ head_of scope.text (trees slice) → head ≡ head_of scope.text (trees forms.items)
+  begins : (head : Head) → head ≡ head_of scope.text (trees slice) →
+      head ≡ head_of scope.text (trees forms.items)
   begins head h = h ∙ ap (λ l. head_of scope.text (trees l)) same
 
-  pub faults_nothing : Nothing ≡ head_of scope.text (trees slice) → first (condition_faults scope equality (tree_of f)) ≡ None
+  pub faults_nothing : Nothing ≡ head_of scope.text (trees slice) →
+      first (condition_faults scope equality (tree_of f)) ≡ None
   faults_nothing h =
       ap first (faults_by scope equality f span forms Nothing is (begins Nothing h)) ∙
       ap (λ l. first (terms_faults scope l)) (no_rest scope.text (trees forms.items) (begins Nothing h))
@@ -191,15 +202,19 @@ module _ (scope : Scope) (equality : Bool) (f : Form) (span : Span) (forms : Vec
 
   pub literals_and : And ≡ head_of scope.text (trees slice) →
       literals_of scope (tree_of f) ≡ flat_map (literals_of scope) (trees inner)
-  literals_and h = literals_by scope f span forms And is (begins And h) ∙ ap (flat_map (literals_of scope)) (sym the_rest)
+  literals_and h = literals_by scope f span forms And is (begins And h) ∙
+      ap (flat_map (literals_of scope)) (sym the_rest)
 
   pub faults_not : Not ≡ head_of scope.text (trees slice) →
       condition_faults scope equality (tree_of f) ≡
-      or_inside (fault_if (not (length inner == 1)) span.from kind.BadForm) (flat_map (basic_faults scope equality) (trees inner))
+      or_inside (fault_if (not (length inner == 1)) span.from kind.BadForm)
+      (flat_map (basic_faults scope equality) (trees inner))
   faults_not h =
       faults_by scope equality f span forms Not is (begins Not h) ∙
-      ap (λ l. or_inside (fault_if (not (length l == 1)) span.from kind.BadForm) (flat_map (basic_faults scope equality) l)) (sym the_rest) ∙
-      ap (λ n. or_inside (fault_if (not (n == 1)) span.from kind.BadForm) (flat_map (basic_faults scope equality) (trees inner))) (length_trees inner)
+      ap (λ l. or_inside (fault_if (not (length l == 1)) span.from kind.BadForm)
+      (flat_map (basic_faults scope equality) l)) (sym the_rest) ∙
+      ap (λ n. or_inside (fault_if (not (n == 1)) span.from kind.BadForm)
+      (flat_map (basic_faults scope equality) (trees inner))) (length_trees inner)
 
   pub literals_not : Not ≡ head_of scope.text (trees slice) →
       literals_of scope (tree_of f) ≡ map negated (flat_map (basic_literal scope) (trees inner))
@@ -209,11 +224,13 @@ module _ (scope : Scope) (equality : Bool) (f : Form) (span : Span) (forms : Vec
 
   pub faults_basic : (head : Head) → is_simple head ≡ true → head ≡ head_of scope.text (trees slice) →
       condition_faults scope equality (tree_of f) ≡
-      or_inside (basic_by head scope equality span.from (trees slice)) (terms_faults scope (drop 1 (trees slice)))
+      or_inside (basic_by head scope equality span.from (trees slice))
+      (terms_faults scope (drop 1 (trees slice)))
   faults_basic head simple h =
       faults_by scope equality f span forms head is (begins head h) ∙
       simple_faults scope equality span.from (trees forms.items) head simple _ _ _ ∙
-      ap (λ l. or_inside (basic_by head scope equality span.from (trees l)) (terms_faults scope (drop 1 (trees l)))) (sym same)
+      ap (λ l. or_inside (basic_by head scope equality span.from (trees l))
+      (terms_faults scope (drop 1 (trees l)))) (sym same)
 
   pub literals_basic : (head : Head) → is_simple head ≡ true → head ≡ head_of scope.text (trees slice) →
       literals_of scope (tree_of f) ≡ basic_literal_by head scope (trees slice)
@@ -241,36 +258,45 @@ inner_counted text span (more head rest) =
     (cond (is_basic (head_of text (head ∷ members rest))) 1 0)) (counted_each text rest)
 
 -- the number of a form that was matched as a list
-pub counted_by : (text : List ℕ) (f : Form) (span : Span) (forms : Vec Form Global) (slice : List Form) (head : Head) →
-    f ≡ form.List span forms → slice ≡ forms.items → head ≡ head_of text (trees slice) → counted text (tree_of f) ≡
+pub counted_by : (text : List ℕ) (f : Form) (span : Span) (forms : Vec Form Global)
+    (slice : List Form) (head : Head) →
+    f ≡ form.List span forms → slice ≡ forms.items → head ≡ head_of text (trees slice) →
+    counted text (tree_of f) ≡
     cond (is_connective head) (counted_in text (drop 1 (trees slice))) (cond (is_basic head) 1 0)
 counted_by text f span forms slice head is same h =
     ap (λ g. counted text (tree_of g)) is ∙ ap (counted text) (tree_of_list span forms) ∙
     inner_counted text span (trees_of forms.items) ∙
-    ap (λ l. cond (is_connective (head_of text l)) (counted_in text (drop 1 l)) (cond (is_basic (head_of text l)) 1 0))
+    ap (λ l. cond (is_connective (head_of text l)) (counted_in text (drop 1 l))
+    (cond (is_basic (head_of text l)) 1 0))
     (members-trees_of forms.items ∙ ap trees (sym same)) ∙
     ap (λ k. cond (is_connective k) (counted_in text (drop 1 (trees slice))) (cond (is_basic k) 1 0)) (sym h)
 
 -- a list that is no conjunction counts one or none
-pub counted_single : (text : List ℕ) (f : Form) (span : Span) (forms : Vec Form Global) (slice : List Form) (head : Head) (connective basic : Bool) →
+pub counted_single : (text : List ℕ) (f : Form) (span : Span) (forms : Vec Form Global) (slice : List Form)
+    (head : Head) (connective basic : Bool) →
     f ≡ form.List span forms → slice ≡ forms.items → head ≡ head_of text (trees slice) →
-    connective ≡ is_connective head → connective ≡ false → basic ≡ is_basic head → cond basic 1 0 ≡ counted text (tree_of f)
+    connective ≡ is_connective head → connective ≡ false → basic ≡ is_basic head →
+    cond basic 1 0 ≡ counted text (tree_of f)
 counted_single text f span forms slice head connective basic is same h told none counts =
     ap (λ b. cond b 1 0) counts ∙
     ap (λ b. cond b (counted_in text (drop 1 (trees slice))) (cond (is_basic head) 1 0)) (sym none ∙ told) ∙
     sym (counted_by text f span forms slice head is same h)
 
 -- a conjunction counts what its elements count
-pub counted_many : (text : List ℕ) (f : Form) (span : Span) (forms : Vec Form Global) (slice inner : List Form) (head : Head) (connective : Bool) →
-    f ≡ form.List span forms → slice ≡ forms.items → inner ≡ drop 1 slice → head ≡ head_of text (trees slice) →
-    connective ≡ is_connective head → connective ≡ true → counted_in text (trees inner) ≡ counted text (tree_of f)
+pub counted_many : (text : List ℕ) (f : Form) (span : Span) (forms : Vec Form Global)
+    (slice inner : List Form) (head : Head) (connective : Bool) →
+    f ≡ form.List span forms → slice ≡ forms.items → inner ≡ drop 1 slice →
+    head ≡ head_of text (trees slice) →
+    connective ≡ is_connective head → connective ≡ true →
+    counted_in text (trees inner) ≡ counted text (tree_of f)
 counted_many text f span forms slice inner head connective is same after h told some =
     ap (counted_in text) (ap trees after ∙ trees_rest slice) ∙
     ap (λ b. cond b (counted_in text (drop 1 (trees slice))) (cond (is_basic head) 1 0)) (sym some ∙ told) ∙
     sym (counted_by text f span forms slice head is same h)
 
 -- where a part is too much, the whole is
-pub left_none : (budget part further : ℕ) → None ≡ left_of budget part → None ≡ left_of budget (part + further)
+pub left_none : (budget part further : ℕ) → None ≡ left_of budget part →
+    None ≡ left_of budget (part + further)
 left_none budget part further h = grind (arith, nat_tests)
 
 -- nothing is taken from a number
@@ -284,18 +310,22 @@ many_of : (budget n : ℕ) → is_some (left_of budget n) ≡ false → nat_lt b
 many_of budget n h = grind (arith, nat_tests)
 
 -- a precondition with no more atoms and equalities than it may have is a condition
-pub pre_few : (scope : Scope) (tree : Tree) (found : Option ℕ) (some : Bool) → found ≡ left_of 1024 (counted scope.text tree) →
+pub pre_few : (scope : Scope) (tree : Tree) (found : Option ℕ) (some : Bool) →
+    found ≡ left_of 1024 (counted scope.text tree) →
     some ≡ is_some found → some ≡ true → precondition_faults scope tree ≡ condition_faults scope true tree
 unfolding precondition_faults
 pre_few scope tree found some is told yes_ =
-    ap (λ b. cond b (condition_own scope true tree ++ fault_if true (place tree) kind.TooMany) (condition_faults scope true tree))
+    ap (λ b. cond b (condition_own scope true tree ++ fault_if true (place tree) kind.TooMany)
+    (condition_faults scope true tree))
     (few_of 1024 (counted scope.text tree) (ap is_some (sym is) ∙ sym told ∙ yes_))
 
 -- and one with more has its own faults, and too many
-pub pre_many : (scope : Scope) (tree : Tree) (found : Option ℕ) (some : Bool) → found ≡ left_of 1024 (counted scope.text tree) →
+pub pre_many : (scope : Scope) (tree : Tree) (found : Option ℕ) (some : Bool) →
+    found ≡ left_of 1024 (counted scope.text tree) →
     some ≡ is_some found → some ≡ false →
     precondition_faults scope tree ≡ condition_own scope true tree ++ fault_if true (place tree) kind.TooMany
 unfolding precondition_faults
 pre_many scope tree found some is told none =
-    ap (λ b. cond b (condition_own scope true tree ++ fault_if true (place tree) kind.TooMany) (condition_faults scope true tree))
+    ap (λ b. cond b (condition_own scope true tree ++ fault_if true (place tree) kind.TooMany)
+    (condition_faults scope true tree))
     (many_of 1024 (counted scope.text tree) (ap is_some (sym is) ∙ sym told ∙ none))

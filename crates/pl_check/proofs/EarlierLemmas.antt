@@ -1,5 +1,6 @@
 -- A name stands before a place where the first of its places is before it.
-use Rattle.std.proofs.Common.{◌≡◌, ◌==◌, ℕ, zero, suc, List, [], ◌∷◌, ◌||◌, ◌&&◌, Bool, true, false, take, Option, None, Some, option_map, arith, refl, sym, ap, ◌∙◌, cond}
+use Rattle.std.proofs.Common.{◌≡◌, ◌==◌, ℕ, zero, suc, List, [], ◌∷◌, ◌||◌, ◌&&◌, Bool, true, false, take}
+use Rattle.std.proofs.Common.{Option, None, Some, option_map, arith, refl, sym, ap, ◌∙◌, cond}
 use Rattle.std.specs.Prelude.{bytes_eq, nat_lt, slice_get}
 use Rattle.std.specs.List.{list_any}
 use Rattle.std.proofs.lemmas.Bool.Decides.{nat_tests}
@@ -24,7 +25,8 @@ before_none : (found : Option ℕ) → is_before found 0 ≡ false
 before_none None = refl
 before_none (Some n) = grind (arith, nat_tests)
 
-before_more : (found : Option ℕ) (place : ℕ) → is_before (option_map suc found) (suc place) ≡ is_before found place
+before_more : (found : Option ℕ) (place : ℕ) →
+    is_before (option_map suc found) (suc place) ≡ is_before found place
 before_more None place = refl
 before_more (Some n) place = grind (arith, nat_tests)
 

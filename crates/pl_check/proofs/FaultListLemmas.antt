@@ -4,7 +4,8 @@ use Rattle.pl_check.specs.declared.reading.Fault.{Fault}
 use Rattle.pl_check.specs.FaultLists.{first}
 
 -- the first of the front, where it has one
-pub first_some : (faults rest : List Fault) (fault : Fault) → first faults ≡ Some fault → first (faults ++ rest) ≡ Some fault
+pub first_some : (faults rest : List Fault) (fault : Fault) → first faults ≡ Some fault →
+    first (faults ++ rest) ≡ Some fault
 first_some [] rest fault h = cc
 first_some (f ∷ faults) rest fault h = h
 

@@ -6,7 +6,8 @@ use Rattle.pl_text.proofs.TreePlaceLaws.{AreTreesOf-one}
 use Rattle.pl_check.specs.declared.role.FileRole.{FileRole}
 use Rattle.pl_check.specs.declared.role.FileRole.TheVariants.{Domain, Problem}
 use Rattle.pl_check.specs.declared.fault.InputFault.{InputFault}
-use Rattle.pl_check.specs.FirstFault.{AreRead, IsTextFaultOf, IsLaterTextFault, IsFormFault, IsFirstFault, text_in_file, faults_of, first_of}
+use Rattle.pl_check.specs.FirstFault.{AreRead, IsTextFaultOf, IsLaterTextFault, IsFormFault, IsFirstFault}
+use Rattle.pl_check.specs.FirstFault.{text_in_file, faults_of, first_of}
 use Rattle.pl_check.specs.Laws.{FirstFaultIsOne}
 
 pub text-one : FaultIsOne → (file : FileRole) (bytes : List ℕ) (fault other : InputFault) →

@@ -1,5 +1,6 @@
 -- The items of typed lists, element by element.
-use Rattle.std.proofs.Common.{◌≡◌, ◌+◌, ◌<◌, ℕ, suc, Bool, ◌||◌, true, false, not, cond, List, [], ◌∷◌, ◌++◌, map, filter, length, refl, sym, ap, ◌∙◌}
+use Rattle.std.proofs.Common.{◌≡◌, ◌+◌, ◌<◌, ℕ, suc, Bool, ◌||◌, true, false, not, cond, List, [], ◌∷◌, ◌++◌}
+use Rattle.std.proofs.Common.{map, filter, length, refl, sym, ap, ◌∙◌}
 use Rattle.pl_text.specs.Trees.{Tree}
 use Rattle.pl_check.specs.declared.typed.TypedRole.{TypedRole}
 use Rattle.pl_check.specs.declared.typed.TypedRole.TheVariants.{Names, Variables}

@@ -1,10 +1,14 @@
 -- The faults of each kind of form stand in order, so the first of two files is the least.
 use Rattle.std.proofs.lemmas.Bool.{cases_lt}
-use Rattle.std.proofs.Common.{◌≡◌, ◌⊎◌, inl, inr, ◌+◌, ◌*◌, ◌-◌, ◌<◌, ◌≤◌, ℕ, Bool, true, false, not, ◌&&◌, ◌||◌, ◌==◌, ◌%◌, cond, List, [], ◌∷◌, ◌++◌, drop, map, length, flat_map, Option, None, Some, All, Contains, refl, sym, ap, ◌∙◌, subst, arith, codes, bytes_eq, nat_lt, nat_le, is_none}
+use Rattle.std.proofs.Common.{◌≡◌, ◌⊎◌, inl, inr, ◌+◌, ◌*◌, ◌-◌, ◌<◌, ◌≤◌, ℕ, Bool, true, false, not, ◌&&◌}
+use Rattle.std.proofs.Common.{◌||◌, ◌==◌, ◌%◌, cond, List, [], ◌∷◌, ◌++◌, drop, map, length, flat_map, Option}
+use Rattle.std.proofs.Common.{None, Some, All, Contains, refl, sym, ap, ◌∙◌, subst, arith, codes, bytes_eq}
+use Rattle.std.proofs.Common.{nat_lt, nat_le, is_none}
 use Rattle.std.proofs.lemmas.List.Elements.{All-nil, All-cons, All-map, All-append, All-weaker}
 use Rattle.std.specs.List.{list_any}
 use Rattle.std.proofs.lemmas.Slice.Eq.{bytes_eq-Decides}
-use Rattle.pl_text.specs.Trees.{Tree, Trees, word, list, end, more, span_of, members, AreTreesOf, LiesBetween, LieBetween}
+use Rattle.pl_text.specs.Trees.{Tree, Trees, word, list, end, more, span_of, members, AreTreesOf, LiesBetween}
+use Rattle.pl_text.specs.Trees.{LieBetween}
 use Rattle.pl_text.proofs.TreePlaceLaws.{LiesBetween-from, LiesBetween-some, LiesBetween-to, AreTreesOf-lie}
 use Rattle.pl_text.specs.Words.{folded}
 use Rattle.pl_check.specs.declared.fault.FaultKind.{FaultKind}
@@ -19,18 +23,28 @@ use Rattle.pl_check.specs.declared.typed.TypedRole.TheVariants.{Variables, Param
 use Rattle.pl_check.specs.Words.{is_name, is_variable, is_key}
 use Rattle.pl_check.specs.Elements.{place, elements, word_of, head_word, is_list}
 use Rattle.pl_check.specs.FaultLists.{fault_if, or_inside}
-use Rattle.pl_check.specs.TypedLists.{Before, at_start, after, is_dash, item_faults, type_name_faults, type_faults, dash_faults, element_faults, typed_faults}
-use Rattle.pl_check.specs.Predicates.{is_declaration, declaration_own, declaration_faults, names_after, predicates_faults}
-use Rattle.pl_check.specs.Terms.{Scope, term_faults, terms_faults, atom_own, basic_by, basic_own, basic_faults, arity_of, head_of}
-use Rattle.pl_check.specs.Conditions.{counted, condition_by, condition_own, by_head, condition_faults, conjuncts_faults, precondition_faults, effect_faults}
+use Rattle.pl_check.specs.TypedLists.{Before, at_start, after, is_dash, item_faults, type_name_faults}
+use Rattle.pl_check.specs.TypedLists.{type_faults, dash_faults, element_faults, typed_faults}
+use Rattle.pl_check.specs.Predicates.{is_declaration, declaration_own, declaration_faults, names_after}
+use Rattle.pl_check.specs.Predicates.{predicates_faults}
+use Rattle.pl_check.specs.Terms.{Scope, term_faults, terms_faults, atom_own, basic_by, basic_own}
+use Rattle.pl_check.specs.Terms.{basic_faults, arity_of, head_of}
+use Rattle.pl_check.specs.Conditions.{counted, condition_by, condition_own, by_head, condition_faults}
+use Rattle.pl_check.specs.Conditions.{conjuncts_faults, precondition_faults, effect_faults}
 use Rattle.pl_check.specs.declared.fault.InputFault.{InputFault}
 use Rattle.pl_check.specs.Known.{Known}
-use Rattle.pl_check.specs.Actions.{pairs, key_faults, parameters_faults, value_faults, pairs_faults, first_place, action_faults, action_scope}
-use Rattle.pl_check.specs.Sections.{Earlier, is_action_form, is_domain_name, has_shape, section_own, section_inside, domain_section, domain_inside, problem_section, problem_inside, problem_scope, section_keys, is_action, requirement_faults, earlier_after, sections_faults}
+use Rattle.pl_check.specs.Actions.{pairs, key_faults, parameters_faults, value_faults, pairs_faults}
+use Rattle.pl_check.specs.Actions.{first_place, action_faults, action_scope}
+use Rattle.pl_check.specs.Sections.{Earlier, is_action_form, is_domain_name, has_shape, section_own}
+use Rattle.pl_check.specs.Sections.{section_inside, domain_section, domain_inside, problem_section}
+use Rattle.pl_check.specs.Sections.{problem_inside, problem_scope, section_keys, is_action}
+use Rattle.pl_check.specs.Sections.{requirement_faults, earlier_after, sections_faults}
 use Rattle.pl_check.specs.Files.{define_own, define_inside, form_faults, further_faults, file_faults}
 use Rattle.pl_check.specs.FirstFault.{in_file, known_in, first_of}
 use Rattle.pl_check.specs.Laws.{kind_number, NoLater, IsLeast, FirstFaultIsLeast}
-use Rattle.pl_check.proofs.RiseLemmas.{key, first_least, Rises, Lie, AtTree, InTree, rises-lower, rises-upper, rises-append, rises-if, rises-cond, rises-inside, lie-ends, lie-lower, lie-drop, lie-members, lie-elements, in-at, in-inside, rises-flat}
+use Rattle.pl_check.proofs.RiseLemmas.{key, first_least, Rises, Lie, AtTree, InTree, rises-lower, rises-upper}
+use Rattle.pl_check.proofs.RiseLemmas.{rises-append, rises-if, rises-cond, rises-inside, lie-ends, lie-lower}
+use Rattle.pl_check.proofs.RiseLemmas.{lie-drop, lie-members, lie-elements, in-at, in-inside, rises-flat}
 
 kind_small : (k : FaultKind) → kind_number k ≤ 12
 kind_small kind.BadByte = omega arith

@@ -1,4 +1,5 @@
--- What follows where there is no fault: the parts of an empty list are empty, and a test without a fault fails.
+-- What follows where there is no fault: the parts of an empty list are empty, and a test without a fault
+-- fails.
 use Rattle.std.proofs.Common.{◌≡◌, ℕ, Bool, true, false, List, [], ◌∷◌, ◌++◌, All, refl, arith}
 use Rattle.std.specs.List.{flat_map}
 use Rattle.std.proofs.lemmas.List.Elements.{All-nil, All-cons}

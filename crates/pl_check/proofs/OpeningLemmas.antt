@@ -1,5 +1,7 @@
 -- The opening of a file: its first form, and in it the title.
-use Rattle.std.proofs.Common.{◌≡◌, ℕ, ◌≤◌, ◌&&◌, Bool, true, List, [], ◌∷◌, ◌++◌, drop, length, get_or, Option, None, Some, Result, Ok, Err, refl, sym, ap, ◌∙◌, subst, arith, codes, bytes_eq}
+use Rattle.std.proofs.Common.{◌≡◌, ℕ, ◌≤◌, ◌&&◌, Bool, true, List, [], ◌∷◌, ◌++◌, drop, length, get_or}
+use Rattle.std.proofs.Common.{Option, None, Some, Result, Ok, Err, refl, sym, ap, ◌∙◌, subst, arith, codes}
+use Rattle.std.proofs.Common.{bytes_eq}
 use Rattle.std.specs.Prelude.{All}
 use Rattle.std.specs.Borrow.{Bor}
 use Rattle.std.proofs.lemmas.List.{length-drop, length-map}
@@ -12,7 +14,8 @@ use Rattle.pl_check.specs.declared.reading.ReadEnd.{ReadEnd}
 use Rattle.pl_check.specs.declared.reading.ReadEnd.TheVariants as read_end
 use Rattle.pl_check.specs.Elements.{trees, elements, head_word, is_list}
 use Rattle.pl_check.specs.FaultLists.{first}
-use Rattle.pl_check.specs.Files.{begins_with_list, define_own, define_inside, form_faults, further_faults, file_faults}
+use Rattle.pl_check.specs.Files.{begins_with_list, define_own, define_inside, form_faults, further_faults}
+use Rattle.pl_check.specs.Files.{file_faults}
 use Rattle.pl_check.specs.Known.{Known, sections}
 use Rattle.pl_check.specs.Opening.{OpensTitle, OpensForm, Opens}
 use Rattle.pl_check.specs.Reading.{Refuses, HasFew}

@@ -1,9 +1,11 @@
 -- Trees that lie in a file are no more than its bytes, and so are the elements of each list.
-use Rattle.std.proofs.Common.{◌≡◌, ◌+◌, ◌-◌, ◌<◌, ◌≤◌, ℕ, List, [], ◌∷◌, map, length, All, refl, sym, ap, subst, arith}
+use Rattle.std.proofs.Common.{◌≡◌, ◌+◌, ◌-◌, ◌<◌, ◌≤◌, ℕ, List, [], ◌∷◌, map, length, All, refl, sym, ap}
+use Rattle.std.proofs.Common.{subst, arith}
 use Rattle.std.proofs.lemmas.List.{length-map}
 use Rattle.std.proofs.lemmas.List.Elements.{All-nil, All-cons}
 use Rattle.pl_text.specs.declared.form.Form.{Form}
-use Rattle.pl_text.specs.Trees.{Tree, Trees, word, list, end, more, tree_of, trees_of, span_of, members, LiesBetween, LieBetween}
+use Rattle.pl_text.specs.Trees.{Tree, Trees, word, list, end, more, tree_of, trees_of, span_of, members}
+use Rattle.pl_text.specs.Trees.{LiesBetween, LieBetween}
 use Rattle.pl_text.proofs.TreeLaws.{members-trees_of}
 use Rattle.pl_text.proofs.TreePlaceLaws.{LiesBetween-from, LiesBetween-some, LieBetween-ends}
 use Rattle.pl_check.specs.Elements.{trees}

@@ -1,5 +1,8 @@
--- Lines of a plan: the numbers that their words have, the steps that they name, and that a file has one list of them.
-use Rattle.std.proofs.Common.{◌≡◌, ◌⊎◌, inl, inr, ◌+◌, ◌-◌, ◌<◌, ◌≤◌, ◌==◌, ℕ, suc, Bool, true, false, cond, List, [], ◌∷◌, ◌++◌, map, filter_map, drop, length, get_or, slice_get, Option, None, Some, All, refl, sym, ap, ◌∙◌, subst, arith, eqb-true, add-one, drop-cons}
+-- Lines of a plan: the numbers that their words have, the steps that they name, and that a file has one list
+-- of them.
+use Rattle.std.proofs.Common.{◌≡◌, ◌⊎◌, inl, inr, ◌+◌, ◌-◌, ◌<◌, ◌≤◌, ◌==◌, ℕ, suc, Bool, true, false, cond}
+use Rattle.std.proofs.Common.{List, [], ◌∷◌, ◌++◌, map, filter_map, drop, length, get_or, slice_get, Option}
+use Rattle.std.proofs.Common.{None, Some, All, refl, sym, ap, ◌∙◌, subst, arith, eqb-true, add-one, drop-cons}
 use Rattle.std.proofs.lemmas.List.{length-map, length-append, length-drop}
 use Rattle.std.proofs.lemmas.List.Elements.{All-nil, All-cons, All-head, All-map}
 use Rattle.std.proofs.lemmas.Option.{slice_get_within, slice_get-get_or}
@@ -26,10 +29,12 @@ use Rattle.pl_check.specs.declared.reading.Fault.{Fault}
 use Rattle.pl_check.specs.Elements.{trees, word_of, head_word, elements}
 use Rattle.pl_check.specs.FaultLists.{first}
 use Rattle.pl_check.specs.FirstFault.{AreRead, in_file, text_in_file}
-use Rattle.pl_check.specs.Laws.{LinesAreOne, PlanFaultIsOne, HasPlanFault, HasLines, FaultOrLines, FaultExcludesLines}
+use Rattle.pl_check.specs.Laws.{LinesAreOne, PlanFaultIsOne, HasPlanFault, HasLines, FaultOrLines}
+use Rattle.pl_check.specs.Laws.{FaultExcludesLines}
 use Rattle.pl_check.proofs.FirstLemmas.{text-one, text-none}
 use Rattle.pl_check.specs.declared.role.FileRole.TheVariants.{Plan}
-use Rattle.pl_check.specs.PlanLines.{numbers_named, objects_named, plan_faults, line_by, line_at, line_naming, line_of, AreLines, IsLineFault, IsPlanFault, IsStepText}
+use Rattle.pl_check.specs.PlanLines.{numbers_named, objects_named, plan_faults, line_by, line_at, line_naming}
+use Rattle.pl_check.specs.PlanLines.{line_of, AreLines, IsLineFault, IsPlanFault, IsStepText}
 
 -- a word that is among names has a place there
 pub number_within : (names : List (List ℕ)) (name : List ℕ) (n : ℕ) → number_among names name ≡ Some n →

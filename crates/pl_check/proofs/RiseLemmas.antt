@@ -1,8 +1,10 @@
 -- Lists of faults in the order of places and kinds, which one number holds.
-use Rattle.std.proofs.Common.{◌≡◌, ◌+◌, ◌*◌, ◌-◌, ◌<◌, ◌≤◌, ℕ, zero, suc, Bool, true, false, cond, List, [], ◌∷◌, ◌++◌, drop, flat_map, All, refl, arith}
+use Rattle.std.proofs.Common.{◌≡◌, ◌+◌, ◌*◌, ◌-◌, ◌<◌, ◌≤◌, ℕ, zero, suc, Bool, true, false, cond, List, []}
+use Rattle.std.proofs.Common.{◌∷◌, ◌++◌, drop, flat_map, All, refl, arith}
 use Rattle.std.proofs.lemmas.List.Elements.{All-nil, All-cons}
 use Rattle.pl_text.specs.Trees.{Tree, Trees, word, list, end, more, span_of, members, LiesBetween, LieBetween}
-use Rattle.pl_text.proofs.TreePlaceLaws.{LiesBetween-from, LiesBetween-some, LiesBetween-to, LiesBetween-wider, LieBetween-ends}
+use Rattle.pl_text.proofs.TreePlaceLaws.{LiesBetween-from, LiesBetween-some, LiesBetween-to}
+use Rattle.pl_text.proofs.TreePlaceLaws.{LiesBetween-wider, LieBetween-ends}
 use Rattle.pl_check.specs.declared.fault.FaultKind.{FaultKind}
 use Rattle.pl_check.specs.declared.reading.Fault.{Fault}
 use Rattle.pl_check.specs.Elements.{place, elements}

@@ -1,5 +1,7 @@
 -- The sections of a problem: their keys, and a walk over them.
-use Rattle.std.proofs.Common.{◌≡◌, ℕ, ◌+◌, ◌<◌, Bool, true, false, not, cond, List, [], ◌∷◌, ◌++◌, map, drop, length, get_or, Option, None, Some, Result, Err, refl, sym, ap, subst, ◌∙◌, append_assoc, codes, bytes_eq, Bor}
+use Rattle.std.proofs.Common.{◌≡◌, ℕ, ◌+◌, ◌<◌, Bool, true, false, not, cond, List, [], ◌∷◌, ◌++◌, map, drop}
+use Rattle.std.proofs.Common.{length, get_or, Option, None, Some, Result, Err, refl, sym, ap, subst, ◌∙◌}
+use Rattle.std.proofs.Common.{append_assoc, codes, bytes_eq, Bor}
 use Rattle.std.specs.List.{list_any, flat_map}
 use Rattle.std.proofs.lemmas.List.{at_drop_more, map_push, map-append}
 use Rattle.std.proofs.lemmas.List.Concat.{flat_map-append}
@@ -21,7 +23,8 @@ use Rattle.pl_check.specs.FaultLists.{first, fault_if, or_inside}
 use Rattle.pl_check.specs.Known.{Known, has_key, sections_of, all_after}
 use Rattle.pl_check.specs.Literals.{literals_of, ground_atom}
 use Rattle.pl_check.specs.Reading.{Refuses}
-use Rattle.pl_check.specs.Sections.{section_keys, section_own, has_shape, is_action, problem_inside, problem_section, problem_scope, earlier_after, sections_faults}
+use Rattle.pl_check.specs.Sections.{section_keys, section_own, has_shape, is_action, problem_inside}
+use Rattle.pl_check.specs.Sections.{problem_section, problem_scope, earlier_after, sections_faults}
 use Rattle.pl_check.specs.Terms.{Scope}
 use Rattle.pl_check.proofs.FaultListLemmas.{first_some, first_none}
 

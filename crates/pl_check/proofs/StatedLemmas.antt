@@ -1,5 +1,6 @@
 -- Two files have a first fault or state a task, never both, and they state one task at most.
-use Rattle.std.proofs.Common.{◌≡◌, ◌⊎◌, inl, inr, ◌≤◌, ℕ, List, [], ◌∷◌, ◌++◌, map, length, codes, Option, None, Some, refl, sym, ap, ◌∙◌, subst, arith}
+use Rattle.std.proofs.Common.{◌≡◌, ◌⊎◌, inl, inr, ◌≤◌, ℕ, List, [], ◌∷◌, ◌++◌, map, length, codes, Option}
+use Rattle.std.proofs.Common.{None, Some, refl, sym, ap, ◌∙◌, subst, arith}
 use Rattle.std.specs.List.{flat_map, filter_map}
 use Rattle.std.proofs.Props.{props}
 use mathlib.Core.HLevel.{is_prop→PathP}
@@ -105,7 +106,8 @@ task-one domain problem task other h k =
     (subst (λ ts. StatesTask (folded domain) (sections (members h.domain_trees)) (folded problem)
     (sections (members ts)) (known_in domain h.domain_trees problem ts) other) problems
     (subst (λ ts. StatesTask (folded domain) (sections (members ts)) (folded problem)
-    (sections (members k.problem_trees)) (known_in domain ts problem k.problem_trees) other) domains k.stated))
+    (sections (members k.problem_trees)) (known_in domain ts problem k.problem_trees)
+    other) domains k.stated))
 
 -- ---- a first fault, or a task
 
@@ -188,7 +190,14 @@ module _ (domain problem : List ℕ) (dt pt : Trees) where
       domain_read = dr;
       problem_read = pr;
       no_fault = none;
-      stated = record { types = refl; objects = refl; predicates = refl; schemas = refl; init = refl; goal = refl };
+      stated = record {
+        types = refl;
+        objects = refl;
+        predicates = refl;
+        schemas = refl;
+        init = refl;
+        goal = refl;
+      };
     },
   )
 

@@ -1,5 +1,6 @@
 -- Actions: a name, then pairs of a key and a value.
-use Rattle.std.specs.Prelude.{◌≡◌, ℕ, Bool, true, false, not, cond, ◌&&◌, ◌||◌, List, [], ◌∷◌, ◌++◌, map, length, drop, nat_lt, codes, bytes_eq, Option, Some, None}
+use Rattle.std.specs.Prelude.{◌≡◌, ℕ, Bool, true, false, not, cond, ◌&&◌, ◌||◌, List, [], ◌∷◌, ◌++◌, map}
+use Rattle.std.specs.Prelude.{length, drop, nat_lt, codes, bytes_eq, Option, Some, None}
 use Rattle.std.specs.List.{list_any, flat_map}
 use Rattle.pl_task.specs.declared.data.Literal.{Literal}
 use Rattle.pl_text.specs.Trees.{Tree}
@@ -35,7 +36,8 @@ value_elements (Some value) = elements value
 abbrev pub parameter_elements : List ℕ → List Tree → List Tree
 parameter_elements text list = value_elements (first_value text (codes ":parameters") list)
 
--- what the values of pairs are read with: the parameters are the variables in item position of the first `:parameters`
+-- what the values of pairs are read with: the parameters are the variables in item position of the first
+-- `:parameters`
 abbrev pub action_scope : List ℕ → Known → List Tree → Scope
 action_scope text known list =
     record { text = text; known = known; parameters = item_variables text (parameter_elements text list) }
@@ -50,7 +52,8 @@ parameters_faults scope value =
 -- whether the word is a key of actions
 unfoldable pub is_action_key : List ℕ → Bool
 is_action_key name =
-    bytes_eq name (codes ":parameters") || bytes_eq name (codes ":precondition") || bytes_eq name (codes ":effect")
+    bytes_eq name (codes ":parameters") || bytes_eq name (codes ":precondition") ||
+    bytes_eq name (codes ":effect")
 
 -- the faults of the first of a pair, after pairs with these keys
 unfoldable pub key_faults : Scope → List (List ℕ) → Tree → List Fault
@@ -64,7 +67,8 @@ key_faults scope earlier name =
 unfoldable pub value_faults : Scope → List ℕ → Tree → List Fault
 value_faults scope key value =
     cond (bytes_eq key (codes ":parameters")) (parameters_faults scope value)
-    (cond (bytes_eq key (codes ":precondition")) (precondition_faults scope value) (effect_faults scope value))
+    (cond (bytes_eq key (codes ":precondition")) (precondition_faults scope value)
+    (effect_faults scope value))
 
 -- the faults of pairs, after pairs with these keys; the value of a key with a fault isn't looked at
 abbrev pub pairs_faults : Scope → List (List ℕ) → List Tree → List Fault
@@ -85,7 +89,8 @@ first_place (tree ∷ rest) = place tree
 -- the faults inside an action, after actions of these names
 unfoldable pub action_faults : List ℕ → Known → List (List ℕ) → Tree → List Fault
 action_faults text known earlier action =
-    fault_if (list_any (bytes_eq (action_name text action)) earlier) (first_place (drop 1 (elements action))) kind.Duplicate ++
+    fault_if (list_any (bytes_eq (action_name text action)) earlier) (first_place (drop 1 (elements action)))
+    kind.Duplicate ++
     pairs_faults (action_scope text known (pairs action)) [] (pairs action)
 
 -- the literals of the values with this key, of which an action without a fault has one at most
@@ -93,4 +98,5 @@ abbrev pub keyed_literals : Scope → List ℕ → List Tree → List Literal
 keyed_literals scope key [] = []
 keyed_literals scope key (name ∷ []) = []
 keyed_literals scope key (name ∷ value ∷ rest) =
-    cond (bytes_eq (word_of scope.text name) key) (literals_of scope value) [] ++ keyed_literals scope key rest
+    cond (bytes_eq (word_of scope.text name) key) (literals_of scope value) [] ++
+    keyed_literals scope key rest

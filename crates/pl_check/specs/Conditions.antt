@@ -1,5 +1,6 @@
 -- Conditions and effects: conjunctions of literals, nested as one likes.
-use Rattle.std.specs.Prelude.{◌≡◌, ℕ, Bool, true, false, not, cond, ◌==◌, ◌+◌, ◌-◌, nat_le, Option, Some, None, List, [], ◌∷◌, ◌++◌, length, drop, nat_lt}
+use Rattle.std.specs.Prelude.{◌≡◌, ℕ, Bool, true, false, not, cond, ◌==◌, ◌+◌, ◌-◌, nat_le, Option, Some}
+use Rattle.std.specs.Prelude.{None, List, [], ◌∷◌, ◌++◌, length, drop, nat_lt}
 use Rattle.std.specs.List.{flat_map}
 use Rattle.pl_text.specs.Trees.{Tree, word, list, Trees, end, more, members}
 use Rattle.pl_check.specs.declared.fault.FaultKind.TheVariants as kind
@@ -10,8 +11,8 @@ use Rattle.pl_check.specs.Elements.{place, is_list, elements}
 use Rattle.pl_check.specs.FaultLists.{fault_if, or_inside}
 use Rattle.pl_check.specs.Terms.{Scope, head_of, basic_by, basic_faults, terms_faults}
 
--- The faults, by its head, of a list of these elements itself that should be a condition, or an effect where equalities
--- aren't allowed.
+-- The faults, by its head, of a list of these elements itself that should be a condition, or an effect where
+-- equalities aren't allowed.
 abbrev pub condition_by : Head → Scope → Bool → ℕ → List Tree → List Fault
 condition_by Nothing scope equality at forms = []
 condition_by And scope equality at forms = []
@@ -28,7 +29,8 @@ condition_own scope equality tree =
     (condition_by (head_of scope.text (elements tree)) scope equality (place tree) (elements tree))
     (fault_if true (place tree) kind.BadForm)
 
--- what stands inside a list, by its head: conditions after `and`, an atom or equality after `not`, terms after others
+-- what stands inside a list, by its head: conditions after `and`, an atom or equality after `not`, terms
+-- after others
 abbrev pub by_head : {A : Type 0} → Head → A → A → A → A
 by_head And conjuncts negated terms = conjuncts
 by_head Not conjuncts negated terms = negated
@@ -77,8 +79,8 @@ is_basic Reserved = false
 is_basic Name = true
 
 abbrev mutual
-  -- The number of atoms and equalities of a condition, whatever faults stand in them: lists with the head `=` or a name
-  -- that isn't reserved, the value itself or reached from it through `and` and `not` alone.
+  -- The number of atoms and equalities of a condition, whatever faults stand in them: lists with the head `=`
+  -- or a name that isn't reserved, the value itself or reached from it through `and` and `not` alone.
   pub counted : List ℕ → Tree → ℕ
   counted text (word span) = 0
   counted text (list span end) = 0

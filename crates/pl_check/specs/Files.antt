@@ -1,5 +1,6 @@
 -- The domain and the problem as files: one `define` list each.
-use Rattle.std.specs.Prelude.{◌≡◌, ℕ, Bool, true, false, not, cond, ◌&&◌, ◌==◌, List, [], ◌∷◌, ◌++◌, length, drop, codes, bytes_eq}
+use Rattle.std.specs.Prelude.{◌≡◌, ℕ, Bool, true, false, not, cond, ◌&&◌, ◌==◌, List, [], ◌∷◌, ◌++◌, length}
+use Rattle.std.specs.Prelude.{drop, codes, bytes_eq}
 use Rattle.std.specs.List.{list_any}
 use Rattle.pl_text.specs.Trees.{Tree}
 use Rattle.pl_check.specs.declared.role.FileRole.{FileRole}
@@ -32,7 +33,8 @@ begins_with_list (tree ∷ rest) = is_list tree
 -- the faults of a `define` list itself
 unfoldable pub define_own : List ℕ → Tree → List Fault
 define_own text tree =
-    fault_if (not (bytes_eq (head_word text (elements tree)) (codes "define") && begins_with_list (drop 1 (elements tree))))
+    fault_if (not (bytes_eq (head_word text (elements tree)) (codes "define") && begins_with_list
+    (drop 1 (elements tree))))
     (place tree) kind.BadForm
 
 -- the faults of the elements of a `define` list after the word, which are a title and sections

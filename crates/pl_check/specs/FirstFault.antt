@@ -1,5 +1,5 @@
--- The first fault of two files: a text fault of the domain, else of the problem, else the first of the faults of their
--- forms, those of the domain before those of the problem.
+-- The first fault of two files: a text fault of the domain, else of the problem, else the first of the faults
+-- of their forms, those of the domain before those of the problem.
 use Rattle.std.specs.Prelude.{◌≡◌, ℕ, ◌⊎◌, List, [], ◌∷◌, ◌++◌, length, map, Option, Some, None}
 use Rattle.pl_text.specs.Trees.{Tree, Trees, members, AreTreesOf}
 use Rattle.pl_text.specs.Words.{folded}
@@ -36,14 +36,16 @@ pub record AreRead (bytes : List ℕ) (trees : Trees) : Type 0 where
 -- what both files declare
 abbrev pub known_in : List ℕ → Trees → List ℕ → Trees → Known
 known_in domain domain_trees problem problem_trees =
-    known_of (folded domain) (sections (members domain_trees)) (folded problem) (sections (members problem_trees))
+    known_of (folded domain) (sections (members domain_trees)) (folded problem)
+    (sections (members problem_trees))
 
 -- The faults of the forms of two files, those of each file in reading order.
 abbrev pub faults_of : List ℕ → Trees → List ℕ → Trees → List InputFault
 faults_of domain domain_trees problem problem_trees =
     let known = known_in domain domain_trees problem problem_trees in
     map (in_file Domain) (file_faults Domain (folded domain) known (length domain) (members domain_trees)) ++
-    map (in_file Problem) (file_faults Problem (folded problem) known (length problem) (members problem_trees))
+    map (in_file Problem) (file_faults Problem (folded problem) known (length problem)
+    (members problem_trees))
 
 -- the first of faults
 abbrev pub first_of : List InputFault → Option InputFault
@@ -73,7 +75,8 @@ pub record IsFormFault (domain problem : List ℕ) (fault : InputFault) : Type 0
 -- the first fault of two files
 abbrev pub IsFirstFault : List ℕ → List ℕ → InputFault → Type 0
 IsFirstFault domain problem fault =
-    IsTextFaultOf Domain domain fault ⊎ IsLaterTextFault domain problem fault ⊎ IsFormFault domain problem fault
+    IsTextFaultOf Domain domain fault ⊎ IsLaterTextFault domain problem fault ⊎
+    IsFormFault domain problem fault
 
 -- how a check may end that gives no task: by the first fault, or out of memory
 abbrev pub EndsBy : List ℕ → List ℕ → CheckEnd → Type 0

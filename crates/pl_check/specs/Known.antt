@@ -1,5 +1,6 @@
 -- What both files declare, collected before any test, whatever faults stand in or around the declarations.
-use Rattle.std.specs.Prelude.{◌≡◌, ℕ, Bool, not, ◌&&◌, List, [], ◌∷◌, ◌++◌, cond, map, filter, drop, codes, bytes_eq}
+use Rattle.std.specs.Prelude.{◌≡◌, ℕ, Bool, not, ◌&&◌, List, [], ◌∷◌, ◌++◌, cond, map, filter, drop, codes}
+use Rattle.std.specs.Prelude.{bytes_eq}
 use Rattle.std.specs.List.{flat_map}
 use Rattle.pl_names.specs.Names.{first_appearances}
 use Rattle.pl_text.specs.Trees.{Tree}
@@ -34,7 +35,8 @@ all_after text key list = flat_map (λ section. drop 1 (elements section)) (sect
 -- the names of types: `object`, and the names in `:types` on either side of `-`, by first appearance
 unfoldable pub type_names : List ℕ → List Tree → List (List ℕ)
 type_names text list =
-    first_appearances (codes "object" ∷ filter is_name (map (word_of text) (first_section text (codes ":types") list)))
+    first_appearances (codes "object" ∷ filter is_name
+    (map (word_of text) (first_section text (codes ":types") list)))
 
 -- the names in item position of `:constants` and `:objects`, in their order
 unfoldable pub object_occurrences : List ℕ → List Tree → List ℕ → List Tree → List (List ℕ)
@@ -42,8 +44,9 @@ object_occurrences domain domain_sections problem problem_sections =
     item_names domain (first_section domain (codes ":constants") domain_sections) ++
     item_names problem (first_section problem (codes ":objects") problem_sections)
 
--- What is known of both files: the names of types, of objects and of predicates with their numbers of arguments. A name
--- means the first that has it, so a predicate that is declared twice has the arguments of its first declaration.
+-- What is known of both files: the names of types, of objects and of predicates with their numbers of
+-- arguments. A name means the first that has it, so a predicate that is declared twice has the arguments of
+-- its first declaration.
 pub record Known : Type 0 where
   pub types : List (List ℕ)
   pub objects : List (List ℕ)

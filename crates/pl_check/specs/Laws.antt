@@ -1,5 +1,5 @@
--- Laws of faults and tasks: which of the faults of two files comes first, by file, by place, then by kind; and that files
--- have one first fault or one task, and plan files one first fault or one list of lines.
+-- Laws of faults and tasks: which of the faults of two files comes first, by file, by place, then by kind;
+-- and that files have one first fault or one task, and plan files one first fault or one list of lines.
 use Rattle.std.specs.Prelude.{◌≡◌, ◌⊎◌, ◌<◌, ◌≤◌, ℕ, List, length, Option, Some, All, Contains}
 use Rattle.pl_text.specs.Limits.{most_bytes}
 use Rattle.pl_text.specs.Trees.{Trees, AreTreesOf}
@@ -36,8 +36,8 @@ kind_number kind.UnknownName = 10
 kind_number kind.WrongArity = 11
 kind_number kind.TooMany = 12
 
--- The first fault comes no later than the second: its file stands before, or in the same file its place is less, or at
--- the same place its kind stands no later.
+-- The first fault comes no later than the second: its file stands before, or in the same file its place is
+-- less, or at the same place its kind stands no later.
 abbrev pub NoLater : InputFault → InputFault → Type 0
 NoLater fault other =
     (file_number fault.file < file_number other.file) ⊎
@@ -111,7 +111,8 @@ HasLines bytes task = (lines : List PlanLine) × AreLines bytes task lines
 
 -- A plan file that may be read has a first fault or lines, whatever the task is.
 abbrev pub FaultOrLines : Type 0
-FaultOrLines = (bytes : List ℕ) (task : Task) → length bytes ≤ most_bytes → HasPlanFault bytes ⊎ HasLines bytes task
+FaultOrLines = (bytes : List ℕ) (task : Task) → length bytes ≤ most_bytes →
+    HasPlanFault bytes ⊎ HasLines bytes task
 
 -- A plan file with a first fault has no lines.
 abbrev pub FaultExcludesLines : Type 0

@@ -1,5 +1,5 @@
--- what the public contracts rest on: the words and the parts of a file, what both files declare, the faults of each
--- kind of form, the first fault of two files, the task that they state, and the lines of a plan
+-- what the public contracts rest on: the words and the parts of a file, what both files declare, the faults
+-- of each kind of form, the first fault of two files, the task that they state, and the lines of a plan
 pub mod Words
 pub mod Elements
 pub mod FaultLists

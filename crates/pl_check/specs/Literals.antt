@@ -1,5 +1,6 @@
 -- The literals of a condition or an effect, in reading order.
-use Rattle.std.specs.Prelude.{◌≡◌, ℕ, Bool, true, false, List, [], ◌∷◌, ◌++◌, map, drop, Option, Some, None, unwrap_or, option_map}
+use Rattle.std.specs.Prelude.{◌≡◌, ℕ, Bool, true, false, List, [], ◌∷◌, ◌++◌, map, drop, Option, Some, None}
+use Rattle.std.specs.Prelude.{unwrap_or, option_map}
 use Rattle.std.specs.List.{flat_map, filter_map}
 use Rattle.pl_names.specs.Names.{number_among}
 use Rattle.pl_task.specs.declared.data.Atom.{Atom}

@@ -16,7 +16,8 @@ use Rattle.pl_check.specs.TypedLists.{typed_items}
 -- the types that a domain states
 abbrev pub stated_types : List ℕ → List Tree → Known → List TypeDef
 stated_types domain sections known =
-    map (type_of known.types (typed_items domain false (first_section domain (codes ":types") sections))) known.types
+    map (type_of known.types (typed_items domain false (first_section domain (codes ":types") sections)))
+    known.types
 
 -- the objects that both files state
 abbrev pub stated_objects : List ℕ → List Tree → List ℕ → List Tree → Known → List ObjectDef
@@ -26,7 +27,8 @@ stated_objects domain domain_sections problem problem_sections known =
     typed_items problem false (first_section problem (codes ":objects") problem_sections))) known.objects
 
 -- these are well formed as the parts of one task
-pub record AreParts (types : List TypeDef) (objects : List ObjectDef) (predicates : List PredicateDef) (schemas : List Schema) (init : List Atom) (goal : List GoalLiteral) : Type 0 where
+pub record AreParts (types : List TypeDef) (objects : List ObjectDef) (predicates : List PredicateDef)
+    (schemas : List Schema) (init : List Atom) (goal : List GoalLiteral) : Type 0 where
   pub types_ok : AreTypes types
   pub objects_ok : AreObjects types objects
   pub predicates_ok : ArePredicates schemas predicates
@@ -35,7 +37,8 @@ pub record AreParts (types : List TypeDef) (objects : List ObjectDef) (predicate
   pub goal_ok : IsGoalOf objects predicates goal
 
 -- the task has these parts
-pub record IsOfParts (types : List TypeDef) (objects : List ObjectDef) (predicates : List PredicateDef) (schemas : List Schema) (init : List Atom) (goal : List GoalLiteral) (task : Task) : Type 0 where
+pub record IsOfParts (types : List TypeDef) (objects : List ObjectDef) (predicates : List PredicateDef)
+    (schemas : List Schema) (init : List Atom) (goal : List GoalLiteral) (task : Task) : Type 0 where
   pub types_are : task.types ≡ types
   pub objects_are : task.objects ≡ objects
   pub predicates_are : task.predicates ≡ predicates

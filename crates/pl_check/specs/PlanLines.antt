@@ -1,5 +1,6 @@
 -- Plan files: one step a line, each a list of the name of an action and the names of objects.
-use Rattle.std.specs.Prelude.{◌≡◌, ◌≤◌, ℕ, Bool, true, not, cond, ◌&&◌, ◌==◌, ◌⊎◌, List, [], ◌∷◌, map, length, drop, is_some, Option, Some, None, slice_get}
+use Rattle.std.specs.Prelude.{◌≡◌, ◌≤◌, ℕ, Bool, true, not, cond, ◌&&◌, ◌==◌, ◌⊎◌, List, [], ◌∷◌, map, length}
+use Rattle.std.specs.Prelude.{drop, is_some, Option, Some, None, slice_get}
 use Rattle.std.specs.List.{list_all, flat_map, filter_map}
 use Rattle.pl_names.specs.Names.{number_among}
 use Rattle.pl_task.specs.declared.data.ObjectDef.{ObjectDef}
@@ -22,7 +23,8 @@ use Rattle.pl_check.specs.FirstFault.{AreRead, IsTextFaultOf, in_file}
 
 -- a list of words, not empty
 unfoldable pub is_line : Tree → Bool
-is_line tree = is_list tree && not (length (elements tree) == 0) && list_all (λ element. not (is_list element)) (elements tree)
+is_line tree = is_list tree && not (length (elements tree) == 0) && list_all
+    (λ element. not (is_list element)) (elements tree)
 
 -- the faults of a form of a plan
 unfoldable pub line_faults : Tree → List Fault
@@ -57,7 +59,8 @@ line_at text task words (Some number) = line_by text task words number (slice_ge
 -- what a line of these words names
 abbrev pub line_naming : List ℕ → Task → List Tree → PlanLine
 line_naming text task words =
-    line_at text task (drop 1 words) (number_among (map (λ (s : Schema). s.name) task.schemas) (head_word text words))
+    line_at text task (drop 1 words) (number_among (map (λ (s : Schema). s.name) task.schemas)
+    (head_word text words))
 
 -- what a line of a plan names
 abbrev pub line_of : List ℕ → Task → Tree → PlanLine

@@ -1,5 +1,6 @@
 -- The predicates that a domain declares.
-use Rattle.std.specs.Prelude.{◌≡◌, ℕ, Bool, true, not, List, [], ◌∷◌, ◌++◌, cond, map, filter, length, drop, nat_lt, bytes_eq}
+use Rattle.std.specs.Prelude.{◌≡◌, ℕ, Bool, true, not, List, [], ◌∷◌, ◌++◌, cond, map, filter, length, drop}
+use Rattle.std.specs.Prelude.{nat_lt, bytes_eq}
 use Rattle.std.specs.List.{list_any}
 use Rattle.pl_text.specs.Trees.{Tree}
 use Rattle.pl_check.specs.declared.fault.FaultKind.TheVariants as kind
@@ -42,10 +43,12 @@ declaration_faults text types earlier tree =
 
 -- the names declared before the next element
 abbrev pub names_after : List ℕ → Tree → List (List ℕ) → List (List ℕ)
-names_after text tree earlier = cond (is_declaration text tree) (earlier ++ declared_name text tree ∷ []) earlier
+names_after text tree earlier = cond (is_declaration text tree) (earlier ++ declared_name text tree ∷ [])
+    earlier
 
 -- the faults of the elements of `:predicates` after its key
 abbrev pub predicates_faults : List ℕ → List (List ℕ) → List (List ℕ) → List Tree → List Fault
 predicates_faults text types earlier [] = []
 predicates_faults text types earlier (tree ∷ rest) =
-    declaration_faults text types earlier tree ++ predicates_faults text types (names_after text tree earlier) rest
+    declaration_faults text types earlier tree ++ predicates_faults text types (names_after text tree earlier)
+    rest

@@ -1,5 +1,7 @@
--- What the functions inside promise each other: a reading gives its value where there is no fault, else the first one.
-use Rattle.std.specs.Prelude.{◌≡◌, ◌≤◌, ◌++◌, ℕ, List, map, length, slice_get, Option, Some, None, Result, Ok, Err, ⊤}
+-- What the functions inside promise each other: a reading gives its value where there is no fault, else the
+-- first one.
+use Rattle.std.specs.Prelude.{◌≡◌, ◌≤◌, ◌++◌, ℕ, List, map, length, slice_get, Option, Some, None, Result, Ok}
+use Rattle.std.specs.Prelude.{Err, ⊤}
 use Rattle.pl_names.specs.Names.{number_among}
 use Rattle.pl_task.specs.declared.data.Parameter.{Parameter}
 use Rattle.pl_text.specs.Trees.{Tree, word, list, Trees, end, more, members}
@@ -69,8 +71,8 @@ as_parameter item = record { name = item.name; types = item.numbers }
 abbrev pub grouped : List (List ℕ) → List ℕ → List Numbered
 grouped names numbers = map (λ name. record { name = name; numbers = numbers }) names
 
--- What a walk over a typed list gives in the end, where these are the elements that are left: the items that are done,
--- those of the open group with the types that follow, and those of the elements.
+-- What a walk over a typed list gives in the end, where these are the elements that are left: the items that
+-- are done, those of the open group with the types that follow, and those of the elements.
 abbrev pub items_from : List ℕ → List (List ℕ) → OpenItems → List Tree → List Numbered
 items_from text types walk rest =
     map numbered_in walk.items.items ++
@@ -91,4 +93,5 @@ abbrev mutual
 abbrev pub IsFound : Known → List ℕ → Option Declared → Type 0
 IsFound known name None = number_among known.predicates name ≡ None
 IsFound known name (Some found) =
-    (number_among known.predicates name ≡ Some found.number) × (slice_get known.arities found.number ≡ Some found.arity)
+    (number_among known.predicates name ≡ Some found.number) ×
+    (slice_get known.arities found.number ≡ Some found.arity)

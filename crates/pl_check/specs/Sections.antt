@@ -1,5 +1,6 @@
 -- Sections: the further elements of a file's `define` list.
-use Rattle.std.specs.Prelude.{◌≡◌, ℕ, Bool, true, false, not, cond, ◌&&◌, ◌||◌, ◌==◌, ◌%◌, List, [], ◌∷◌, ◌++◌, length, drop, nat_lt, nat_le, codes, bytes_eq}
+use Rattle.std.specs.Prelude.{◌≡◌, ℕ, Bool, true, false, not, cond, ◌&&◌, ◌||◌, ◌==◌, ◌%◌, List, [], ◌∷◌}
+use Rattle.std.specs.Prelude.{◌++◌, length, drop, nat_lt, nat_le, codes, bytes_eq}
 use Rattle.std.specs.List.{list_any, flat_map}
 use Rattle.pl_text.specs.Trees.{Tree}
 use Rattle.pl_check.specs.declared.role.FileRole.{FileRole}
@@ -21,7 +22,8 @@ use Rattle.pl_check.specs.Actions.{action_name, action_faults}
 unfoldable pub section_keys : FileRole → List (List ℕ)
 section_keys Domain =
     codes ":requirements" ∷ codes ":types" ∷ codes ":constants" ∷ codes ":predicates" ∷ codes ":action" ∷ []
-section_keys Problem = codes ":domain" ∷ codes ":requirements" ∷ codes ":objects" ∷ codes ":init" ∷ codes ":goal" ∷ []
+section_keys Problem = codes ":domain" ∷ codes ":requirements" ∷ codes ":objects" ∷ codes
+    ":init" ∷ codes ":goal" ∷ []
 section_keys Plan = []
 
 -- `(:domain N)`
@@ -73,7 +75,8 @@ requirement_faults tree = fault_if (is_list tree) (place tree) kind.BadForm
 unfoldable pub domain_inside : List ℕ → Known → List ℕ → List Tree → List Fault
 domain_inside text known key list =
     cond (bytes_eq key (codes ":requirements")) (flat_map requirement_faults list)
-    (cond (bytes_eq key (codes ":types") || bytes_eq key (codes ":constants")) (typed_faults text known.types Names at_start list)
+    (cond (bytes_eq key (codes ":types") || bytes_eq key (codes ":constants"))
+    (typed_faults text known.types Names at_start list)
     (cond (bytes_eq key (codes ":predicates")) (predicates_faults text known.types [] list) []))
 
 -- the faults inside a section of the domain

@@ -1,5 +1,6 @@
 -- The task that two files without a fault state. All things are numbered by first appearance.
-use Rattle.std.specs.Prelude.{◌≡◌, ◌+◌, ℕ, Bool, false, not, ◌==◌, List, [], ◌∷◌, ◌++◌, map, filter, length, drop, codes, bytes_eq, Option, Some, None}
+use Rattle.std.specs.Prelude.{◌≡◌, ◌+◌, ℕ, Bool, false, not, ◌==◌, List, [], ◌∷◌, ◌++◌, map, filter, length}
+use Rattle.std.specs.Prelude.{drop, codes, bytes_eq, Option, Some, None}
 use Rattle.std.specs.List.{flat_map, filter_map}
 use Rattle.pl_names.specs.Names.{number_among}
 use Rattle.pl_task.specs.declared.data.Atom.{Atom}
@@ -23,7 +24,8 @@ use Rattle.pl_check.specs.FirstFault.{AreRead, known_in, faults_of}
 
 -- the numbers of the types of all items of this name, in their order
 abbrev pub types_of : List (List ℕ) → List Item → List ℕ → List ℕ
-types_of types list name = flat_map (λ (i : Item). type_numbers types i.types) (filter (λ (i : Item). bytes_eq i.name name) list)
+types_of types list name = flat_map (λ (i : Item). type_numbers types i.types)
+    (filter (λ (i : Item). bytes_eq i.name name) list)
 
 -- a type under all types that stand after `-` in its declarations
 abbrev pub type_of : List (List ℕ) → List Item → List ℕ → TypeDef
@@ -67,19 +69,24 @@ once [] = []
 once (a ∷ atoms) = a ∷ filter (λ b. not (is_same a b)) (once atoms)
 
 -- the task that the sections of a domain and of a problem state
-pub record StatesTask (domain : List ℕ) (domain_sections : List Tree) (problem : List ℕ) (problem_sections : List Tree) (known : Known) (task : Task) : Type 0 where
+pub record StatesTask (domain : List ℕ) (domain_sections : List Tree) (problem : List ℕ)
+    (problem_sections : List Tree) (known : Known) (task : Task) : Type 0 where
   pub types : task.types ≡
-      map (type_of known.types (typed_items domain false (first_section domain (codes ":types") domain_sections))) known.types
+      map (type_of known.types (typed_items domain false
+      (first_section domain (codes ":types") domain_sections))) known.types
   pub objects : task.objects ≡
       map (object_of known.types
       (typed_items domain false (first_section domain (codes ":constants") domain_sections) ++
       typed_items problem false (first_section problem (codes ":objects") problem_sections))) known.objects
   pub predicates : task.predicates ≡ predicates_from task.schemas 0 known.predicates known.arities
-  pub schemas : task.schemas ≡ map (stated_schema domain known) (sections_of domain (codes ":action") domain_sections)
+  pub schemas : task.schemas ≡ map (stated_schema domain known)
+      (sections_of domain (codes ":action") domain_sections)
   pub init : task.init ≡
-      once (map (ground_atom (problem_scope problem known)) (all_after problem (codes ":init") problem_sections))
+      once (map (ground_atom (problem_scope problem known))
+      (all_after problem (codes ":init") problem_sections))
   pub goal : task.goal ≡
-      filter_map wanted (flat_map (literals_of (problem_scope problem known)) (all_after problem (codes ":goal") problem_sections))
+      filter_map wanted (flat_map (literals_of (problem_scope problem known))
+      (all_after problem (codes ":goal") problem_sections))
 
 -- two files without a fault, and the task that they state
 pub record AreStated (domain problem : List ℕ) (task : Task) : Type 0 where

@@ -1,5 +1,7 @@
 -- Terms, and atoms and equalities over them.
-use Rattle.std.specs.Prelude.{◌≡◌, ℕ, Bool, true, false, not, cond, ◌&&◌, ◌||◌, ◌==◌, List, [], ◌∷◌, ◌++◌, map, length, drop, codes, bytes_eq, slice_get, Option, Some, None, option_map, option_and_then, is_some, is_none}
+use Rattle.std.specs.Prelude.{◌≡◌, ℕ, Bool, true, false, not, cond, ◌&&◌, ◌||◌, ◌==◌, List, [], ◌∷◌, ◌++◌}
+use Rattle.std.specs.Prelude.{map, length, drop, codes, bytes_eq, slice_get, Option, Some, None, option_map}
+use Rattle.std.specs.Prelude.{option_and_then, is_some, is_none}
 use Rattle.std.specs.List.{flat_map, filter_map}
 use Rattle.pl_names.specs.Names.{number_among}
 use Rattle.pl_task.specs.declared.data.Term.{Term}
@@ -14,7 +16,8 @@ use Rattle.pl_check.specs.Elements.{place, word_of, elements, head_word}
 use Rattle.pl_check.specs.FaultLists.{fault_if, or_inside}
 use Rattle.pl_check.specs.Known.{Known}
 
--- what a form is read with: its file in small letters, what both files declare, and the parameters of its action
+-- what a form is read with: its file in small letters, what both files declare, and the parameters of its
+-- action
 pub record Scope : Type 0 where
   pub text : List ℕ
   pub known : Known
@@ -66,7 +69,8 @@ equality_own allowed count at =
 
 -- the faults of an atom of these elements itself
 abbrev pub atom_faults : Scope → ℕ → List Tree → List Fault
-atom_faults scope at list = atom_own (arity_of scope.known (head_word scope.text list)) (length (drop 1 list)) at
+atom_faults scope at list = atom_own (arity_of scope.known (head_word scope.text list))
+    (length (drop 1 list)) at
 
 -- The faults, by its head, of a list itself that should be an atom, or an equality where these are allowed.
 abbrev pub basic_by : Head → Scope → Bool → ℕ → List Tree → List Fault

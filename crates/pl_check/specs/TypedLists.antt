@@ -1,5 +1,6 @@
 -- Typed lists: names or variables in groups, each with the type that follows it after `-`.
-use Rattle.std.specs.Prelude.{◌≡◌, ℕ, Bool, true, false, not, cond, ◌&&◌, ◌||◌, ◌==◌, List, [], ◌∷◌, ◌++◌, map, filter, length, drop, nat_le, codes, bytes_eq, is_none}
+use Rattle.std.specs.Prelude.{◌≡◌, ℕ, Bool, true, false, not, cond, ◌&&◌, ◌||◌, ◌==◌, List, [], ◌∷◌, ◌++◌}
+use Rattle.std.specs.Prelude.{map, filter, length, drop, nat_le, codes, bytes_eq, is_none}
 use Rattle.std.specs.List.{list_any, flat_map, filter_map}
 use Rattle.pl_names.specs.Names.{texts, number_among}
 use Rattle.pl_text.specs.Trees.{Tree}
@@ -20,12 +21,14 @@ is_dash text tree = bytes_eq (word_of text tree) (codes "-")
 abbrev pub is_in_item_position : List ℕ → Bool → Tree → Bool
 is_in_item_position text after_dash tree = not after_dash && not (is_dash text tree)
 
--- The elements in item position: those that aren't `-` and have no `-` right before them. `after_dash` says whether one
--- stands before these elements; an element with one before it is in type position, whatever it is.
+-- The elements in item position: those that aren't `-` and have no `-` right before them. `after_dash` says
+-- whether one stands before these elements; an element with one before it is in type position, whatever it
+-- is.
 abbrev pub items : List ℕ → Bool → List Tree → List Tree
 items text after_dash [] = []
 items text after_dash (tree ∷ rest) =
-    cond (after_dash || is_dash text tree) (items text (is_dash text tree) rest) (tree ∷ items text false rest)
+    cond (after_dash || is_dash text tree) (items text (is_dash text tree) rest)
+    (tree ∷ items text false rest)
 
 -- the names among items
 abbrev pub item_names : List ℕ → List Tree → List (List ℕ)
@@ -44,7 +47,8 @@ named_types text tree =
 abbrev pub type_numbers : List (List ℕ) → List (List ℕ) → List ℕ
 type_numbers types named = filter_map (number_among types) named
 
--- the types of the group that is open before these elements: those that follow it, or `object` where none follow
+-- the types of the group that is open before these elements: those that follow it, or `object` where none
+-- follow
 abbrev pub group_types : List ℕ → Bool → List Tree → List (List ℕ)
 group_types text after_dash [] = codes "object" ∷ []
 group_types text after_dash (tree ∷ rest) =
@@ -62,7 +66,8 @@ typed_items text after_dash (tree ∷ rest) =
     cond (after_dash || is_dash text tree) (typed_items text (is_dash text tree) rest)
     (record { name = word_of text tree; types = group_types text false rest } ∷ typed_items text false rest)
 
--- What stands before an element: whether it is `-`, whether the group has an item, and the items that may not stand again.
+-- What stands before an element: whether it is `-`, whether the group has an item, and the items that may not
+-- stand again.
 pub record Before : Type 0 where
   pub after_dash : Bool
   pub has_item : Bool
@@ -114,7 +119,8 @@ type_name_faults text types tree =
 
 -- `(either t ..)` with at least one further element
 unfoldable pub is_either : List ℕ → Tree → Bool
-is_either text tree = bytes_eq (head_word text (elements tree)) (codes "either") && nat_le 2 (length (elements tree))
+is_either text tree = bytes_eq (head_word text (elements tree)) (codes "either") && nat_le 2
+    (length (elements tree))
 
 -- the faults of an element in type position
 unfoldable pub type_faults : List ℕ → List (List ℕ) → TypedRole → Tree → List Fault

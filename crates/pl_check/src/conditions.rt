@@ -4,7 +4,8 @@ ghost use Rattle.std.specs.Prelude.{◌≡◌, ◌++◌, ◌∷◌, [], ◌==◌
 ghost use Rattle.std.specs.List.{flat_map};
 ghost use Rattle.pl_text.specs.Trees.{tree_of};
 ghost use Rattle.pl_check.specs.declared.fault.FaultKind.TheVariants as kind;
-ghost use Rattle.pl_check.specs.Conditions.{counted, left_of, condition_by, condition_own, condition_faults, precondition_faults};
+ghost use Rattle.pl_check.specs.Conditions.{counted, left_of, condition_by, condition_own, condition_faults};
+ghost use Rattle.pl_check.specs.Conditions.{precondition_faults};
 ghost use Rattle.pl_check.specs.Elements.{trees};
 ghost use Rattle.pl_check.specs.FaultLists.{fault_if, or_inside};
 ghost use Rattle.pl_check.specs.Literals as lit;

@@ -1,6 +1,7 @@
 //! The sections of a domain.
 
-ghost use Rattle.std.specs.Prelude.{◌≡◌, ◌≤◌, ◌+◌, ◌++◌, [], ◌∷◌, cond, codes, bytes_eq, drop, map, length, take};
+ghost use Rattle.std.specs.Prelude.{◌≡◌, ◌≤◌, ◌+◌, ◌++◌, [], ◌∷◌, cond, codes, bytes_eq, drop, map, length};
+ghost use Rattle.std.specs.Prelude.{take};
 ghost use Rattle.std.specs.Prelude.{IfOk, OnOk, All, Some, None, ⊤};
 ghost use Rattle.std.specs.List.{list_any};
 ghost use Rattle.pl_names.specs.Names.{texts};

@@ -1,13 +1,15 @@
 //! The domain and the problem as files: one `define` list each.
 
-ghost use Rattle.std.specs.Prelude.{◌≡◌, ◌≤◌, ◌++◌, [], ◌∷◌, codes, drop, map, length, bytes_eq, ◌&&◌, All, Some, None, ⊤};
+ghost use Rattle.std.specs.Prelude.{◌≡◌, ◌≤◌, ◌++◌, [], ◌∷◌, codes, drop, map, length, bytes_eq, ◌&&◌, All};
+ghost use Rattle.std.specs.Prelude.{Some, None, ⊤};
 ghost use Rattle.std.specs.List.{flat_map};
 ghost use Rattle.pl_text.specs.Trees.{tree_of};
 ghost use Rattle.pl_check.specs.declared.role.FileRole.TheVariants as role_of;
 ghost use Rattle.pl_check.specs.Elements.{trees, head_word};
 ghost use Rattle.pl_check.specs.FaultLists.{first};
 ghost use Rattle.pl_check.specs.Files as spec;
-ghost use Rattle.pl_check.specs.Known.{Known as KnownOf, sections as sections_of_file, sections_of, all_after};
+ghost use Rattle.pl_check.specs.Known.{Known as KnownOf, sections as sections_of_file, sections_of};
+ghost use Rattle.pl_check.specs.Known.{all_after};
 ghost use Rattle.pl_check.specs.Literals.{literals_of, ground_atom};
 ghost use Rattle.pl_check.specs.Opening.{Opens, OpensForm, OpensTitle};
 ghost use Rattle.pl_check.specs.Reading.{Reads, HasFew};
@@ -56,7 +58,8 @@ pub fn read_problem<'a>(
     forms: Vec<Form>,
 ) -> Result<Stated, ReadEnd>
     requires text { length text.now ≤ 16777216 }
-    ensures { Reads (spec.file_faults role_of.Problem text.now known.now (length text.now) (trees forms.items))
+    ensures { Reads (spec.file_faults role_of.Problem text.now known.now
+        (length text.now) (trees forms.items))
         (λ stated. (stated.init.items ≡ map (ground_atom (problem_scope text.now known.now))
         (all_after text.now (codes ":init") (sections_of_file (trees forms.items)))) ×
         (stated.goal.items ≡ flat_map (literals_of (problem_scope text.now known.now))

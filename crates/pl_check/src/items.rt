@@ -1,6 +1,7 @@
 //! The items of typed lists with the types of their groups.
 
-ghost use Rattle.std.specs.Prelude.{◌≡◌, ◌≤◌, ◌<◌, ◌^◌, ◌+◌, ◌++◌, ◌∷◌, [], ℕ, List, true, false, cond, map, filter, length, codes, IfOk, OnOk};
+ghost use Rattle.std.specs.Prelude.{◌≡◌, ◌≤◌, ◌<◌, ◌^◌, ◌+◌, ◌++◌, ◌∷◌, [], ℕ, List, true, false, cond, map};
+ghost use Rattle.std.specs.Prelude.{filter, length, codes, IfOk, OnOk};
 ghost use Rattle.std.specs.List.{filter_map};
 ghost use Rattle.pl_names.specs.Names.{texts, number_among, first_appearances};
 ghost use Rattle.pl_text.specs.Trees.{Tree, tree_of};

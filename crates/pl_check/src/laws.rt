@@ -1,7 +1,9 @@
 //! What the definitions of this crate have in common: each function here is without effect, and its contract
 //! is a law.
 
-ghost use Rattle.pl_check.specs.Laws.{FirstFaultIsLeast, FirstFaultIsOne, TaskIsOne, FaultOrTask, FaultExcludesTask, LinesAreOne, PlanFaultIsOne, FaultOrLines, FaultExcludesLines};
+ghost use Rattle.pl_check.specs.Laws.{FirstFaultIsLeast, FirstFaultIsOne, TaskIsOne, FaultOrTask};
+ghost use Rattle.pl_check.specs.Laws.{FaultExcludesTask, LinesAreOne, PlanFaultIsOne, FaultOrLines};
+ghost use Rattle.pl_check.specs.Laws.{FaultExcludesLines};
 
 use pl_text::laws::{fault_is_one, forms_or_fault};
 

@@ -1,6 +1,7 @@
 //! Reads plan files and steps: what each line names.
 
-ghost use Rattle.std.specs.Prelude.{◌≡◌, ◌≤◌, ◌<◌, length, map, not, slice_get, ℕ, IfOk, IfErr, IsErrOf, MatchOption, All, ⊤, [], ◌∷◌};
+ghost use Rattle.std.specs.Prelude.{◌≡◌, ◌≤◌, ◌<◌, length, map, not, slice_get, ℕ, IfOk, IfErr, IsErrOf};
+ghost use Rattle.std.specs.Prelude.{MatchOption, All, ⊤, [], ◌∷◌};
 ghost use Rattle.std.specs.List.{list_all};
 ghost use Rattle.pl_task.specs.Instance.{Instance};
 ghost use Rattle.pl_task.specs.States.{IsStep};

@@ -38,7 +38,8 @@ pub struct Stated {
     pub goal: Vec<Literal>,
 }
 
-/// What the sections of a problem state. Each form is given up as soon as it was read, since atoms take less memory.
+/// What the sections of a problem state. Each form is given up as soon as it was read, since atoms take less
+/// memory.
 pub fn read_problem_sections<'a>(
     alloc: Global,
     text: &'a [u8],

@@ -3,7 +3,8 @@
 
 ghost use Rattle.std.specs.Prelude.{◌≡◌, slice_range, drop};
 ghost use Rattle.pl_text.specs.Trees.{tree_of};
-ghost use Rattle.pl_check.specs.Elements.{trees, place as place_of, word_of, head_word, elements, is_list as has_elements};
+ghost use Rattle.pl_check.specs.Elements.{trees, place as place_of, word_of, head_word, elements};
+ghost use Rattle.pl_check.specs.Elements.{is_list as has_elements};
 
 use pl_text::Form;
 use std::alloc::Global;

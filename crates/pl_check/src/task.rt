@@ -1,10 +1,11 @@
 //! The task of what both files declare and state.
 
-ghost use Rattle.std.specs.Prelude.{◌≡◌, ◌++◌, ◌<◌, [], false, not, codes, map, length, replicate, slice_set, slice_index_or, IfOk, OnOk};
+ghost use Rattle.std.specs.Prelude.{◌≡◌, ◌++◌, ◌<◌, [], false, not, codes, map, length, replicate, slice_set};
+ghost use Rattle.std.specs.Prelude.{slice_index_or, IfOk, OnOk};
 ghost use Rattle.std.specs.List.{flat_map, filter_map};
 ghost use Rattle.pl_names.specs.Names.{first_appearances};
 ghost use Rattle.pl_check.specs.Elements.{trees};
-ghost use Rattle.pl_check.specs.Gathering.{lists_in, AreAdded};
+ghost use Rattle.pl_check.specs.Gathering.{lists_in, AreAdded, AreLeft};
 ghost use Rattle.pl_check.specs.Known.{sections_of, all_after};
 ghost use Rattle.pl_check.specs.Literals.{literals_of, ground_atom, wanted};
 ghost use Rattle.pl_check.specs.Made.{stated_types, stated_objects, AreParts, IsOfParts};
@@ -122,19 +123,39 @@ fn object_list<'a>(
         typed.typed_items problem.now false (trees forms.now))) known.now.objects) }
 {
     let names = known.objects();
-    let kinds = known.types();
-    let first = typed_items(alloc, domain, kinds, constants)?;
-    let second = typed_items(alloc, problem, kinds, forms)?;
-    let mut types = no_types(alloc, names.names().len())?;
-    add_types(names, first.as_slice(), &mut types)?;
-    add_types(names, second.as_slice(), &mut types)?;
-    let mut objects = Vec::new(alloc);
+    let mut types = object_types(alloc, known, domain, constants, problem, forms)?;
+    let mut objects = Vec::with_capacity(alloc, names.names().len())?;
     for (i, name) in names.names().iter().enumerate() {
         let of = taken(alloc, &mut types, i);
         let definition = object_named(alloc, *name, of)?;
         objects.push(definition)?;
     }
     Ok(objects)
+}
+
+/// The types of the objects, a list for each.
+///
+/// The items take about as much memory as the objects that are made of them, and are given up here.
+fn object_types<'a>(
+    alloc: Global,
+    known: &Known<'a>,
+    domain: &'a [u8],
+    constants: &[Form],
+    problem: &'a [u8],
+    forms: &[Form],
+) -> Result<Vec<Vec<u32>>, AllocError>
+    ensures { IfOk result (λ lists. AreLeft known.now.types
+        (typed.typed_items domain.now false (trees constants.now) ++
+        typed.typed_items problem.now false (trees forms.now)) known.now.objects (lists_in lists.items) 0) }
+{
+    let names = known.objects();
+    let kinds = known.types();
+    let mut lists = no_types(alloc, names.names().len())?;
+    let first = typed_items(alloc, domain, kinds, constants)?;
+    add_types(names, first.as_slice(), &mut lists)?;
+    let second = typed_items(alloc, problem, kinds, forms)?;
+    add_types(names, second.as_slice(), &mut lists)?;
+    Ok(lists)
 }
 
 /// A name of a task.

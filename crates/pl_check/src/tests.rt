@@ -105,7 +105,8 @@ const PLAIN_DOMAIN: &str = "(define (domain d) (:types t) (:constants c) (:predi
 /// The problem of a case whose piece stands in the domain.
 const PLAIN_PROBLEM: &str = "(define (problem p))";
 
-/// A piece of a file and the kind of its first fault. The `@` marks the place of the fault, and isn't part of the file.
+/// A piece of a file and the kind of its first fault. The `@` marks the place of the fault, and isn't part of
+/// the file.
 type Case = (Slot, &'static str, FaultKind);
 
 const FAULTS: &[Case] = &[
@@ -217,7 +218,8 @@ const FAULTS: &[Case] = &[
     (PREDICATES, "@(= ?x ?y)", FaultKind::BadForm),
     (PREDICATES, "@(scale-up)", FaultKind::BadForm),
     (PREDICATES, "(p) (q) @(P ?x)", FaultKind::Duplicate),
-    // Only the elements of `:predicates` themselves are declarations; the arity counts each variable among the elements.
+    // Only the elements of `:predicates` themselves are declarations; the arity counts each variable among
+    // the elements.
     (
         SECTION,
         "(:action a :effect @(q)) (:predicates ((q)))",
@@ -351,7 +353,8 @@ const PAIRS_OF_FILES: &[(&str, &str, FaultKind)] = &[
     ),
 ];
 
-/// A piece that stands so many times between two texts of a domain, and the kind of the first fault, if there is one.
+/// A piece that stands so many times between two texts of a domain, and the kind of the first fault, if there
+/// is one.
 struct Repeated {
     front: &'static str,
     piece: &'static str,

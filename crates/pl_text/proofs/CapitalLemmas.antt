@@ -1,5 +1,6 @@
 -- Words without a capital letter.
-use Rattle.std.proofs.Common.{◌≡◌, ℕ, ◌+◌, ◌<◌, Bool, true, false, ◌||◌, List, [], ◌∷◌, ◌++◌, take, length, get_or, refl, sym, ap, ◌∙◌}
+use Rattle.std.proofs.Common.{◌≡◌, ℕ, ◌+◌, ◌<◌, Bool, true, false, ◌||◌, List, [], ◌∷◌, ◌++◌, take, length}
+use Rattle.std.proofs.Common.{get_or, refl, sym, ap, ◌∙◌}
 use Rattle.std.proofs.lemmas.List.{take_more}
 use Rattle.std.proofs.lemmas.List.Folds.{list_any-append}
 use Rattle.std.specs.List.{list_any}
@@ -22,7 +23,8 @@ bits_more false true = refl
 bits_more false false = refl
 
 -- one byte more is looked at
-pub capital_more : (word : List ℕ) (i : ℕ) (found is : Bool) → i < length word → found ≡ list_any is_capital (take i word) →
+pub capital_more : (word : List ℕ) (i : ℕ) (found is : Bool) → i < length word →
+    found ≡ list_any is_capital (take i word) →
     is ≡ is_capital (get_or word i 0) → (found || is) ≡ list_any is_capital (take (i + 1) word)
 capital_more word i found is within held here =
     ap (λ s. s || is) held ∙ ap (λ b. list_any is_capital (take i word) || b) here ∙

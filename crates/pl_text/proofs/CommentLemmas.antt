@@ -1,5 +1,6 @@
 -- The bytes that are shown are those outside comments.
-use Rattle.std.proofs.Common.{◌≡◌, ◌≢◌, ◌⊎◌, ℕ, zero, suc, ◌<◌, ◌≤◌, Bool, true, false, cond, not, eqb, List, [], ◌∷◌, length, refl, sym, ap, ◌∙◌, arith, inl, inr, Some, slice_get}
+use Rattle.std.proofs.Common.{◌≡◌, ◌≢◌, ◌⊎◌, ℕ, zero, suc, ◌<◌, ◌≤◌, Bool, true, false, cond, not, eqb, List}
+use Rattle.std.proofs.Common.{[], ◌∷◌, length, refl, sym, ap, ◌∙◌, arith, inl, inr, Some, slice_get}
 use Rattle.std.proofs.lemmas.Bool.{false≢true}
 use Rattle.std.proofs.lemmas.Bool.Decides.{nat_tests}
 use Rattle.std.proofs.lemmas.Option.{none-some, same_Some}
@@ -15,8 +16,8 @@ abbrev pub is_inside : Bool → ℕ → Bool
 is_inside true b = not (eqb b 10)
 is_inside false b = eqb b 59
 
--- position p of the bytes that follow is commented: no byte 10 stands up to it, and a comment goes on there or begins
--- at the start
+-- position p of the bytes that follow is commented: no byte 10 stands up to it, and a comment goes on there
+-- or begins at the start
 pub record IsCommentedAfter (inside : Bool) (bytes : List ℕ) (p : ℕ) : Type 0 where
   pub start : ℕ
   pub begins : (slice_get bytes start ≡ Some 59) ⊎ ((start ≡ 0) × (inside ≡ true))

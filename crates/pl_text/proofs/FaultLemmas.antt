@@ -1,5 +1,6 @@
 -- Which fault of a file is given, from what was read without one.
-use Rattle.std.proofs.Common.{◌≡◌, ◌⊎◌, ℕ, zero, suc, ◌<◌, ◌≤◌, true, false, List, [], ◌∷◌, ◌++◌, length, take, sym, ap, ◌∙◌, subst, arith, inl, inr, append_assoc, Some, slice_get}
+use Rattle.std.proofs.Common.{◌≡◌, ◌⊎◌, ℕ, zero, suc, ◌<◌, ◌≤◌, true, false, List, [], ◌∷◌, ◌++◌, length}
+use Rattle.std.proofs.Common.{take, sym, ap, ◌∙◌, subst, arith, inl, inr, append_assoc, Some, slice_get}
 use Rattle.std.proofs.lemmas.Bool.{false≢true, cases_lt}
 use Rattle.std.proofs.lemmas.List.{append-nil}
 use Rattle.std.proofs.lemmas.List.Elements.{All-head, All-tail}
@@ -11,13 +12,16 @@ use Rattle.pl_text.specs.Bytes.{is_bad_byte}
 use Rattle.pl_text.specs.Comments.{shown}
 use Rattle.pl_text.specs.Tokens.{Token, Open, Close, place_of, tokens, Rises}
 use Rattle.pl_text.specs.Forms.{flatten_all}
-use Rattle.pl_text.specs.TextFaults.{opens, closes, IsBadByte, IsStrayClose, IsTooDeep, IsUnclosed, ClosesNothing, IsFirst, IsTextFault, ComesBefore, IsGivenFault, IsFaultless}
+use Rattle.pl_text.specs.TextFaults.{opens, closes, IsBadByte, IsStrayClose, IsTooDeep, IsUnclosed}
+use Rattle.pl_text.specs.TextFaults.{ClosesNothing, IsFirst, IsTextFault, ComesBefore, IsGivenFault}
+use Rattle.pl_text.specs.TextFaults.{IsFaultless}
 use Rattle.pl_text.specs.Reading.{IsQuiet}
 use Rattle.pl_text.proofs.CommentLemmas.{shown-cases}
 use Rattle.pl_text.proofs.TokenLemmas.{IsClean}
 use Rattle.pl_text.proofs.RiseLemmas.{Rises-place, Rises-after, Rises-tokens}
 use Rattle.pl_text.specs.Trees.{trees_of}
-use Rattle.pl_text.proofs.CountLemmas.{opens-append, closes-append, head_same, tail_same, split, IsWhole, whole_all, Outermost}
+use Rattle.pl_text.proofs.CountLemmas.{opens-append, closes-append, head_same, tail_same, split, IsWhole}
+use Rattle.pl_text.proofs.CountLemmas.{whole_all, Outermost}
 
 -- a place below which no byte is bad, and no bracket before it closes too much or goes too deep
 pub record NoEarlier (bytes : List ℕ) (at : ℕ) : Type 0 where

@@ -1,10 +1,12 @@
--- How the definitions that go over forms are read at a list of the program, `form.List span forms`, whose elements are
--- the items of a `Vec`.
-use Rattle.std.proofs.Common.{◌≡◌, ◌↔◌, ℕ, ◌+◌, ◌-◌, ◌≤◌, List, ◌∷◌, map, All, Vec, Global, refl, sym, ap, ◌∙◌, subst}
+-- How the definitions that go over forms are read at a list of the program, `form.List span forms`, whose
+-- elements are the items of a `Vec`.
+use Rattle.std.proofs.Common.{◌≡◌, ◌↔◌, ℕ, ◌+◌, ◌-◌, ◌≤◌, List, ◌∷◌, map, All, Vec, Global, refl, sym, ap}
+use Rattle.std.proofs.Common.{◌∙◌, subst}
 use Rattle.std.proofs.lemmas.List.Elements.{All-nil, All-cons, All-head, All-tail}
 use Rattle.pl_text.specs.declared.form.Span.{Span}
 use Rattle.pl_text.specs.declared.form.Form as form
-use Rattle.pl_text.specs.declared.form.Form.{Form, Word, List', Row_of-Form, end_of-Form, more_of-Form, items-the_row-Form, items_hidden-the_row-Form-0}
+use Rattle.pl_text.specs.declared.form.Form.{Form, Word, List', Row_of-Form, end_of-Form, more_of-Form}
+use Rattle.pl_text.specs.declared.form.Form.{items-the_row-Form, items_hidden-the_row-Form-0}
 use Rattle.pl_text.specs.Forms.{span_of, elements, fold_form, fold_row, Every, EveryInRow}
 use Rattle.pl_text.specs.Spans.{IsWithin, ArePlaced, HoldsElements, IsPlaced}
 

@@ -1,5 +1,6 @@
 -- How the tokens that were read grow by a form, by a bracket that begins a list and by one that ends it.
-use Rattle.std.proofs.Common.{◌≡◌, ℕ, ◌+◌, ◌-◌, ◌≤◌, List, [], ◌∷◌, ◌++◌, length, take, drop, reverse, Vec, Global, sym, ap, ◌∙◌, subst, arith, append_assoc, length-append}
+use Rattle.std.proofs.Common.{◌≡◌, ℕ, ◌+◌, ◌-◌, ◌≤◌, List, [], ◌∷◌, ◌++◌, length, take, drop, reverse, Vec}
+use Rattle.std.proofs.Common.{Global, sym, ap, ◌∙◌, subst, arith, append_assoc, length-append}
 use Rattle.std.proofs.lemmas.List.{append-nil, reverse-append, take-append-le, drop-append-le, length-take-le}
 use Rattle.pl_text.specs.Limits.{most_open}
 use Rattle.pl_text.specs.declared.form.Form as form

@@ -1,5 +1,7 @@
 -- How a reading goes on, and how it ends.
-use Rattle.std.proofs.Common.{◌≡◌, ◌≢◌, ℕ, zero, suc, ◌+◌, ◌<◌, ◌≤◌, true, false, List, [], ◌∷◌, ◌++◌, length, take, drop, get_or, reverse, refl, sym, ap, ◌∙◌, subst, arith, append_assoc, add-one, None, Some, slice_get}
+use Rattle.std.proofs.Common.{◌≡◌, ◌≢◌, ℕ, zero, suc, ◌+◌, ◌<◌, ◌≤◌, true, false, List, [], ◌∷◌, ◌++◌, length}
+use Rattle.std.proofs.Common.{take, drop, get_or, reverse, refl, sym, ap, ◌∙◌, subst, arith, append_assoc}
+use Rattle.std.proofs.Common.{add-one, None, Some, slice_get}
 use Rattle.std.proofs.Math.Seq.{take-add, drop-cons, drop-length}
 use Rattle.std.proofs.lemmas.List.{append-nil, drop-drop, length-reverse, reverse-append}
 use Rattle.std.proofs.lemmas.List.Elements.{All-append, All-nil}
@@ -17,10 +19,13 @@ use Rattle.pl_text.specs.Scan.{line_length}
 use Rattle.pl_text.specs.Forms.{AreFormsOf}
 use Rattle.pl_text.specs.TextFaults.{opens, closes, IsGivenFault, IsFaultless, EndsBy}
 use Rattle.pl_text.specs.Reading.{tokens_read, AddsToken, CannotEnter, CannotLeave, IsQuiet, IsRead}
-use Rattle.pl_text.proofs.TokenLemmas.{IsClean, GoesOn, goes_on-open, goes_on-close, goes_on-blank, goes_on-word, goes_on-comment, shown-cons}
+use Rattle.pl_text.proofs.TokenLemmas.{IsClean, GoesOn, goes_on-open, goes_on-close, goes_on-blank}
+use Rattle.pl_text.proofs.TokenLemmas.{goes_on-word, goes_on-comment, shown-cons}
 use Rattle.pl_text.proofs.RiseLemmas.{Rises-from}
-use Rattle.pl_text.proofs.CountLemmas.{opens-append, closes-append, opens-tokens_read, IsQuiet-push, Outermost, outermost}
-use Rattle.pl_text.proofs.FaultLemmas.{NoEarlier, bad_late, bad_shown, stray_late, deep_late, gives_bad, gives_stray, gives_deep, gives_unclosed, faultless}
+use Rattle.pl_text.proofs.CountLemmas.{opens-append, closes-append, opens-tokens_read, IsQuiet-push}
+use Rattle.pl_text.proofs.CountLemmas.{Outermost, outermost}
+use Rattle.pl_text.proofs.FaultLemmas.{NoEarlier, bad_late, bad_shown, stray_late, deep_late, gives_bad}
+use Rattle.pl_text.proofs.FaultLemmas.{gives_stray, gives_deep, gives_unclosed, faultless}
 
 -- the byte that is read, and those after it
 pub byte_at : (bytes : List ℕ) (at b : ℕ) → at < length bytes → b ≡ get_or bytes at 0 →

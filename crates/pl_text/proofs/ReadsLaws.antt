@@ -1,6 +1,8 @@
 -- Each file has forms or a fault: a reading that takes no memory.
 use denote.RawPtr.{null_ptr}
-use Rattle.std.proofs.Common.{◌≡◌, ◌⊎◌, ℕ, zero, suc, ◌+◌, ◌<◌, ◌≤◌, ◌^◌, Bool, true, false, cond, eqb, List, [], ◌∷◌, ◌++◌, length, take, drop, get_or, reverse, Vec, Global, refl, sym, ap, ◌∙◌, subst, arith, inl, inr, length-append, length-drop}
+use Rattle.std.proofs.Common.{◌≡◌, ◌⊎◌, ℕ, zero, suc, ◌+◌, ◌<◌, ◌≤◌, ◌^◌, Bool, true, false, cond, eqb, List}
+use Rattle.std.proofs.Common.{[], ◌∷◌, ◌++◌, length, take, drop, get_or, reverse, Vec, Global, refl, sym, ap}
+use Rattle.std.proofs.Common.{◌∙◌, subst, arith, inl, inr, length-append, length-drop}
 use Rattle.std.proofs.Math.Seq.{take-length, drop-length}
 use Rattle.std.proofs.lemmas.Bool.{cases_lt}
 use Rattle.std.proofs.lemmas.Bool.Decides.{nat_tests}
@@ -23,7 +25,9 @@ use Rattle.pl_text.specs.Reading.{AreNested, IsKept, AddsToken, IsRead, tokens_r
 use Rattle.pl_text.proofs.NestingLemmas.{adds_word, adds_close}
 use Rattle.pl_text.proofs.RiseLemmas.{run_length-le}
 use Rattle.pl_text.proofs.TokenLemmas.{run_length-word, line_length-more}
-use Rattle.pl_text.proofs.ReadingLemmas.{byte_at, read-none, step-open, step-close, step-blank, step-comment, step-word, ends-stray, ends-deep, ends-bad, end-forms, end-faultless, end-unclosed}
+use Rattle.pl_text.proofs.ReadingLemmas.{byte_at, read-none, step-open, step-close, step-blank, step-comment}
+use Rattle.pl_text.proofs.ReadingLemmas.{step-word, ends-stray, ends-deep, ends-bad, end-forms, end-faultless}
+use Rattle.pl_text.proofs.ReadingLemmas.{end-unclosed}
 
 -- a `Vec` of these elements
 vec_of : {A : Type 0} (xs : List A) → length xs < 2 ^ 63 → (v : Vec A Global) × (v.items ≡ xs)

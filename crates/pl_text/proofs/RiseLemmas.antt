@@ -1,10 +1,12 @@
 -- The tokens of a file rise by place.
-use Rattle.std.proofs.Common.{◌≡◌, ℕ, ◌+◌, ◌≤◌, Bool, true, false, eqb, List, [], ◌∷◌, ◌++◌, length, refl, sym, subst, arith}
+use Rattle.std.proofs.Common.{◌≡◌, ℕ, ◌+◌, ◌≤◌, Bool, true, false, eqb, List, [], ◌∷◌, ◌++◌, length, refl}
+use Rattle.std.proofs.Common.{sym, subst, arith}
 use Rattle.pl_text.specs.Bytes.{is_word_byte}
 use Rattle.pl_text.specs.Comments.{shown}
 use Rattle.pl_text.specs.Tokens.{Token, place_of, end_of, run_length, tokens_from, tokens, Rises}
 use Rattle.pl_text.proofs.CommentLemmas.{length-view}
-use Rattle.pl_text.proofs.TokenLemmas.{from-cons, from-word, from-inner, from-other, run_length-word, run_length-other, token_by}
+use Rattle.pl_text.proofs.TokenLemmas.{from-cons, from-word, from-inner, from-other, run_length-word}
+use Rattle.pl_text.proofs.TokenLemmas.{run_length-other, token_by}
 
 pub Rises-le : (low less high : ℕ) (all : List Token) → less ≤ low → Rises low high all → Rises less high all
 Rises-le low less high [] le h = omega arith

@@ -1,7 +1,8 @@
 -- Forms whose trees lie one after another do so themselves, each list's elements between its brackets.
 use Rattle.std.proofs.Common.{ℕ, ◌+◌, ◌-◌, ◌≤◌, List, [], ◌∷◌, length, All}
 use Rattle.std.proofs.lemmas.List.Elements.{All-nil, All-cons}
-use Rattle.pl_text.specs.declared.form.Form.{Form, Word, List', Row_of-Form, end_of-Form, more_of-Form, items-the_row-Form}
+use Rattle.pl_text.specs.declared.form.Form.{Form, Word, List', Row_of-Form, end_of-Form, more_of-Form}
+use Rattle.pl_text.specs.declared.form.Form.{items-the_row-Form}
 use Rattle.pl_text.specs.Trees.{tree_of, trees_in, trees_of, LiesBetween, LieBetween, IsInFile, AreInFile}
 use Rattle.pl_text.specs.Forms.{span_of, EveryInRow, AreFormsOf}
 use Rattle.pl_text.specs.Spans.{IsWithin, ArePlaced, HoldsElements, IsPlaced}

@@ -1,13 +1,17 @@
 -- The tokens of a file, position by position.
-use Rattle.std.proofs.Common.{◌≡◌, ◌≢◌, ◌⊎◌, ℕ, zero, suc, ◌+◌, ◌-◌, ◌<◌, ◌≤◌, Bool, true, false, eqb, List, [], ◌∷◌, length, drop, refl, sym, ap, ◌∙◌, subst, arith, inl, inr, add-one, Some, slice_get, Contains}
+use Rattle.std.proofs.Common.{◌≡◌, ◌≢◌, ◌⊎◌, ℕ, zero, suc, ◌+◌, ◌-◌, ◌<◌, ◌≤◌, Bool, true, false, eqb, List}
+use Rattle.std.proofs.Common.{[], ◌∷◌, length, drop, refl, sym, ap, ◌∙◌, subst, arith, inl, inr, add-one}
+use Rattle.std.proofs.Common.{Some, slice_get, Contains}
 use Rattle.std.proofs.lemmas.Bool.{false≢true, cases_lt}
 use Rattle.std.proofs.lemmas.Bool.Decides.{nat_tests}
-use Rattle.std.proofs.lemmas.List.Elements.{Contains-append_left, Contains-append_right, Contains-append_cases}
+use Rattle.std.proofs.lemmas.List.Elements.{Contains-append_left, Contains-append_right}
+use Rattle.std.proofs.lemmas.List.Elements.{Contains-append_cases}
 use Rattle.std.proofs.lemmas.Option.{none-some, same_Some, slice_get_within}
 use Rattle.pl_text.specs.declared.form.Span.{Span}
 use Rattle.pl_text.specs.Bytes.{is_word_byte}
 use Rattle.pl_text.specs.Comments.{HoldsByte, shown}
-use Rattle.pl_text.specs.Tokens.{Token, Open, Close, Word, place_of, end_of, Rises, run_length, token_at, tokens_from, tokens, HoldsWordByte, IsLongestRun, IsToken, AreTokensOf}
+use Rattle.pl_text.specs.Tokens.{Token, Open, Close, Word, place_of, end_of, Rises, run_length, token_at}
+use Rattle.pl_text.specs.Tokens.{tokens_from, tokens, HoldsWordByte, IsLongestRun, IsToken, AreTokensOf}
 use Rattle.pl_text.proofs.CommentLemmas.{shown-cases, length-view}
 use Rattle.pl_text.proofs.TokenLemmas.{token_by, run_length-word, run_length-other}
 use Rattle.pl_text.proofs.RiseLemmas.{Rises-tokens}

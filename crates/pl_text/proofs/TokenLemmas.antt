@@ -1,5 +1,7 @@
--- How the tokens of the bytes from a place on are those that begin at the place and those from where these end.
-use Rattle.std.proofs.Common.{◌≡◌, ◌≢◌, ℕ, suc, ◌+◌, Bool, true, false, cond, eqb, List, [], ◌∷◌, ◌++◌, take, drop, All, refl, sym, ap, ◌∙◌, subst, arith, add-one, add-zero}
+-- How the tokens of the bytes from a place on are those that begin at the place and those from where these
+-- end.
+use Rattle.std.proofs.Common.{◌≡◌, ◌≢◌, ℕ, suc, ◌+◌, Bool, true, false, cond, eqb, List, [], ◌∷◌, ◌++◌, take}
+use Rattle.std.proofs.Common.{drop, All, refl, sym, ap, ◌∙◌, subst, arith, add-one, add-zero}
 use Rattle.std.proofs.lemmas.Bool.{false≢true}
 use Rattle.std.proofs.lemmas.Bool.Decides.{nat_tests}
 use Rattle.std.proofs.lemmas.List.Elements.{All-nil, All-cons}

@@ -1,11 +1,15 @@
 -- How the tree of a form is read at a form of the program, and trees at what a slice of forms gives.
 use mathlib.Core.Former.{Count}
-use Rattle.std.proofs.Common.{◌≡◌, ◌+◌, ◌-◌, ◌<◌, ◌≤◌, ℕ, zero, suc, List, [], ◌∷◌, ◌++◌, map, drop, flat_map, slice_get, get_or, length, take, option_map, add-one, drop-cons, arith, Vec, Global, refl, sym, ap, ◌∙◌, append_assoc}
+use Rattle.std.proofs.Common.{◌≡◌, ◌+◌, ◌-◌, ◌<◌, ◌≤◌, ℕ, zero, suc, List, [], ◌∷◌, ◌++◌, map, drop, flat_map}
+use Rattle.std.proofs.Common.{slice_get, get_or, length, take, option_map, add-one, drop-cons, arith, Vec}
+use Rattle.std.proofs.Common.{Global, refl, sym, ap, ◌∙◌, append_assoc}
 use Rattle.std.proofs.lemmas.List.{drop_all, take_all}
 use Rattle.pl_text.specs.declared.form.Span.{Span}
 use Rattle.pl_text.specs.declared.form.Form as form
-use Rattle.pl_text.specs.declared.form.Form.{Form, Word, List', Row_of-Form, end_of-Form, more_of-Form, items-the_row-Form, items_hidden-the_row-Form-0}
-use Rattle.pl_text.specs.Trees.{Tree, word, list, end, more, tree_of, trees_in, trees_of, inside, members, tree_at, past, each, written, written_all, IsInFile, AreInFile}
+use Rattle.pl_text.specs.declared.form.Form.{Form, Word, List', Row_of-Form, end_of-Form, more_of-Form}
+use Rattle.pl_text.specs.declared.form.Form.{items-the_row-Form, items_hidden-the_row-Form-0}
+use Rattle.pl_text.specs.Trees.{Tree, word, list, end, more, tree_of, trees_in, trees_of, inside, members}
+use Rattle.pl_text.specs.Trees.{tree_at, past, each, written, written_all, IsInFile, AreInFile}
 
 -- the tree of a word of the program
 pub tree_of_word : (span : Span) → tree_of (form.Word span) ≡ word span
@@ -43,7 +47,8 @@ members-trees_of (form ∷ forms) = ap (λ rest. tree_of form ∷ rest) (members
 -- the trees of a list of the program, as a list
 pub members_of_list : (span : Span) (forms : Vec Form Global) →
     members (inside (tree_of (form.List span forms))) ≡ map tree_of forms.items
-members_of_list span forms = ap (λ t. members (inside t)) (tree_of_list span forms) ∙ members-trees_of forms.items
+members_of_list span forms = ap (λ t. members (inside t)) (tree_of_list span forms) ∙
+    members-trees_of forms.items
 
 -- the tree at a place is that of the form there
 pub tree_at-trees_of : (place : ℕ) (forms : List Form) →
@@ -73,7 +78,8 @@ written_all-append (x ∷ xs) ys =
     ap (λ rest. written (tree_of x) ++ rest) (written_all-append xs ys) ∙
     sym (append_assoc (written (tree_of x)) (written_all (trees_of xs)) (written_all (trees_of ys)))
 
--- Trees in a loop over the forms `forms`, at the one with the number `i`. `form` is what a read past the end gives.
+-- Trees in a loop over the forms `forms`, at the one with the number `i`. `form` is what a read past the end
+-- gives.
 
 -- the trees from there on are its tree and those after it
 pub trees_of-more : (forms : List Form) (i : ℕ) (form : Form) → i < length forms →

@@ -1,8 +1,10 @@
 -- The trees of a file lie in it one after another, and a file has one list of trees.
-use Rattle.std.proofs.Common.{◌≡◌, ℕ, ◌+◌, ◌-◌, ◌<◌, ◌≤◌, List, [], ◌∷◌, ◌++◌, length, sym, ◌∙◌, subst, ap, refl, arith, append_assoc}
+use Rattle.std.proofs.Common.{◌≡◌, ℕ, ◌+◌, ◌-◌, ◌<◌, ◌≤◌, List, [], ◌∷◌, ◌++◌, length, sym, ◌∙◌, subst, ap}
+use Rattle.std.proofs.Common.{refl, arith, append_assoc}
 use Rattle.pl_text.specs.Tokens as token
 use Rattle.pl_text.specs.Tokens.{Token, Open, Close, Rises, tokens}
-use Rattle.pl_text.specs.Trees.{Tree, Trees, word, list, end, more, span_of, written, written_all, AreTreesOf, LiesBetween, LieBetween, IsInFile, AreInFile}
+use Rattle.pl_text.specs.Trees.{Tree, Trees, word, list, end, more, span_of, written, written_all, AreTreesOf}
+use Rattle.pl_text.specs.Trees.{LiesBetween, LieBetween, IsInFile, AreInFile}
 use Rattle.pl_text.proofs.CountLemmas.{head_same, tail_same}
 use Rattle.pl_text.proofs.RiseLemmas.{Rises-tokens}
 use Rattle.pl_text.proofs.TokenLaws.{same_span}

@@ -1,7 +1,8 @@
 -- The forms of a file: words and lists, as its tokens nest.
 use Rattle.std.specs.Prelude.{◌≡◌, ℕ, List, [], ◌∷◌, ⊤}
 use Rattle.pl_text.specs.declared.form.Span.{Span}
-use Rattle.pl_text.specs.declared.form.Form.{Form, Word, List', Row_of-Form, end_of-Form, more_of-Form, items-the_row-Form}
+use Rattle.pl_text.specs.declared.form.Form.{Form, Word, List', Row_of-Form, end_of-Form, more_of-Form}
+use Rattle.pl_text.specs.declared.form.Form.{items-the_row-Form}
 use Rattle.pl_text.specs.Tokens.{Token}
 use Rattle.pl_text.specs.Trees.{trees_of, written_all, AreTreesOf}
 
@@ -46,8 +47,8 @@ abbrev pub AreFormsOf : List ℕ → List Form → Type 0
 AreFormsOf bytes forms = AreTreesOf bytes (trees_of forms)
 
 abbrev mutual
-  -- The two forms are the same but for how their memory lies: one word, or two lists with one span and with elements
-  -- that are the same one by one.
+  -- The two forms are the same but for how their memory lies: one word, or two lists with one span and with
+  -- elements that are the same one by one.
   pub AreSame : Form → Form → Type 0
   AreSame (Word span) (Word other) = span ≡ other
   AreSame (Word span) (List' other shape row) = ⊥
@@ -58,7 +59,8 @@ abbrev mutual
   AreSameRows end_of-Form end_of-Form = ⊤
   AreSameRows end_of-Form (more_of-Form other rest') = ⊥
   AreSameRows (more_of-Form form rest) end_of-Form = ⊥
-  AreSameRows (more_of-Form form rest) (more_of-Form other rest') = AreSame form other × AreSameRows rest rest'
+  AreSameRows (more_of-Form form rest) (more_of-Form other rest') = AreSame form other ×
+      AreSameRows rest rest'
 
 -- So it is of two lists of forms, one by one.
 abbrev pub AreAllSame : List Form → List Form → Type 0

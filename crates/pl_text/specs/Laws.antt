@@ -9,18 +9,19 @@ use Rattle.pl_text.specs.Forms.{AreFormsOf, AreAllSame}
 use Rattle.pl_text.specs.Words.{folded}
 use Rattle.pl_text.specs.TextFaults.{IsGivenFault, HasForms, GivesFault}
 
--- The tokens of a file, which are defined byte by byte, are its brackets and its longest runs of word bytes outside
--- comments, by rising place, and no other list is.
+-- The tokens of a file, which are defined byte by byte, are its brackets and its longest runs of word bytes
+-- outside comments, by rising place, and no other list is.
 abbrev pub TokensAreThose : Type 0
 TokensAreThose = (bytes : List ℕ) (found : List Token) → AreTokensOf bytes found ↔ (found ≡ tokens bytes)
 
 -- A file has one list of trees at most.
 abbrev pub TreesAreOne : Type 0
 TreesAreOne =
-    (bytes : List ℕ) (trees others : Trees) → AreTreesOf bytes trees → AreTreesOf bytes others → trees ≡ others
+    (bytes : List ℕ) (trees others : Trees) → AreTreesOf bytes trees →
+    AreTreesOf bytes others → trees ≡ others
 
--- The trees of a file lie in it one after another, and those of a list between its brackets: the places rise in reading
--- order, a list's before those of its trees.
+-- The trees of a file lie in it one after another, and those of a list between its brackets: the places rise
+-- in reading order, a list's before those of its trees.
 abbrev pub TreesArePlaced : Type 0
 TreesArePlaced = (bytes : List ℕ) (trees : Trees) → AreTreesOf bytes trees → LieBetween 0 (length bytes) trees
 

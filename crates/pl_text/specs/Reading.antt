@@ -1,5 +1,6 @@
 -- How far a reading of a file has come: the lists that are still open, and the forms that are done.
-use Rattle.std.specs.Prelude.{◌≡◌, ℕ, ◌+◌, ◌≤◌, false, List, [], ◌∷◌, ◌++◌, length, take, drop, reverse, All, ⊤}
+use Rattle.std.specs.Prelude.{◌≡◌, ℕ, ◌+◌, ◌≤◌, false, List, [], ◌∷◌, ◌++◌, length, take, drop, reverse, All}
+use Rattle.std.specs.Prelude.{⊤}
 use Rattle.pl_text.specs.declared.form.Form.{Form}
 use Rattle.pl_text.specs.Limits.{most_open}
 use Rattle.pl_text.specs.declared.fault.TextFault.TheVariants.{StrayClose, TooDeep}
@@ -12,8 +13,8 @@ use Rattle.pl_text.specs.Tokens.{Token, Open, tokens, tokens_from}
 use Rattle.pl_text.specs.Forms.{flatten_all}
 use Rattle.pl_text.specs.TextFaults.{opens, closes}
 
--- The tokens that were read, by the open lists, the innermost first: the forms that were done before the innermost
--- list began, its bracket, and the forms that were done since.
+-- The tokens that were read, by the open lists, the innermost first: the forms that were done before the
+-- innermost list began, its bracket, and the forms that were done since.
 abbrev pub tokens_read : List Opened → List Form → List Token
 tokens_read [] done = flatten_all done
 tokens_read (list ∷ outer) done =
@@ -30,7 +31,8 @@ pub record IsKept (lists : List Opened) (done : List Form) : Type 0 where
   pub depth : length lists ≤ most_open
 
 -- A token was read.
-pub record AddsToken (old_lists new_lists : List Opened) (old_done new_done : List Form) (token : Token) : Type 0 where
+pub record AddsToken (old_lists new_lists : List Opened) (old_done new_done : List Form) (token : Token) :
+    Type 0 where
   pub kept : IsKept new_lists new_done
   pub read : tokens_read (reverse new_lists) new_done ≡ tokens_read (reverse old_lists) old_done ++ token ∷ []
 
@@ -55,7 +57,8 @@ IsQuiet all =
     (front rest : List Token) → all ≡ front ++ rest →
     (closes front ≤ opens front) × (opens front ≤ closes front + most_open)
 
--- The file was read without a fault up to the place `at`, which stands outside comments and does not cut a word.
+-- The file was read without a fault up to the place `at`, which stands outside comments and does not cut a
+-- word.
 pub record IsRead (bytes : List ℕ) (at : ℕ) (lists : List Opened) (done : List Form) : Type 0 where
   pub in_file : at ≤ length bytes
   pub outside : drop at (shown bytes) ≡ shown (drop at bytes)

@@ -11,12 +11,14 @@ IsWithin high = Every (λ part. ((span_of part).from ≤ (span_of part).to) × (
 abbrev pub ArePlaced : ℕ → ℕ → List Form → Type 0
 ArePlaced low high [] = low ≤ high
 ArePlaced low high (form ∷ rest) =
-    (low ≤ (span_of form).from) × ((span_of form).from < (span_of form).to) × ArePlaced (span_of form).to high rest
+    (low ≤ (span_of form).from) × ((span_of form).from < (span_of form).to) ×
+    ArePlaced (span_of form).to high rest
 
 -- The elements of a list lie between its brackets.
 abbrev pub HoldsElements : Form → Type 0
 HoldsElements (Word span) = ⊤
-HoldsElements (List' span shape row) = ArePlaced (span.from + 1) (span.to - 1) (elements (List' span shape row))
+HoldsElements (List' span shape row) = ArePlaced (span.from + 1) (span.to - 1)
+    (elements (List' span shape row))
 
 -- So it is of a form and of all inside it.
 abbrev pub IsPlaced : Form → Type 0

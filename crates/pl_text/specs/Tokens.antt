@@ -1,5 +1,6 @@
 -- The tokens of a file: its brackets and its words, outside comments.
-use Rattle.std.specs.Prelude.{◌≡◌, ℕ, ◌+◌, ◌<◌, ◌≤◌, ◌↔◌, ◌==◌, Bool, false, cond, List, [], ◌∷◌, ◌++◌, length, Contains, IsTrue}
+use Rattle.std.specs.Prelude.{◌≡◌, ℕ, ◌+◌, ◌<◌, ◌≤◌, ◌↔◌, ◌==◌, Bool, false, cond, List, [], ◌∷◌, ◌++◌}
+use Rattle.std.specs.Prelude.{length, Contains, IsTrue}
 use Rattle.pl_text.specs.declared.form.Span.{Span}
 use Rattle.pl_text.specs.Bytes.{is_word_byte}
 use Rattle.pl_text.specs.Comments.{HoldsByte, shown}
@@ -62,7 +63,8 @@ IsToken bytes (Word span) = IsLongestRun bytes span
 -- Each token has a byte and ends before the next one begins, from `low` up to `high`.
 abbrev pub Rises : ℕ → ℕ → List Token → Type 0
 Rises low high [] = low ≤ high
-Rises low high (token ∷ rest) = (low ≤ place_of token) × (place_of token < end_of token) × Rises (end_of token) high rest
+Rises low high (token ∷ rest) = (low ≤ place_of token) × (place_of token < end_of token) ×
+    Rises (end_of token) high rest
 
 -- all tokens of a file, by rising place
 pub record AreTokensOf (bytes : List ℕ) (found : List Token) : Type 0 where

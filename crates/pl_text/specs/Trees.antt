@@ -1,6 +1,8 @@
--- The forms of a file as plain data: trees of words and lists with their spans. A form of the program is seen as its
--- tree, so that two forms with one tree are the same for all that is said of them, however their memory lies.
-use Rattle.std.specs.Prelude.{◌≡◌, ℕ, ◌+◌, ◌-◌, ◌<◌, ◌≤◌, zero, suc, List, [], ◌∷◌, ◌++◌, Option, None, Some, ⊤}
+-- The forms of a file as plain data: trees of words and lists with their spans. A form of the program is seen
+-- as its tree, so that two forms with one tree are the same for all that is said of them, however their
+-- memory lies.
+use Rattle.std.specs.Prelude.{◌≡◌, ℕ, ◌+◌, ◌-◌, ◌<◌, ◌≤◌, zero, suc, List, [], ◌∷◌, ◌++◌, Option, None, Some}
+use Rattle.std.specs.Prelude.{⊤}
 use Rattle.pl_text.specs.declared.form.Span.{Span}
 use Rattle.pl_text.specs.declared.form.Form.{Form, Word, List', Row_of-Form, end_of-Form, more_of-Form}
 use Rattle.pl_text.specs.Tokens as token
@@ -66,8 +68,8 @@ module _ {A : Type 0} (f : Tree → List A) where
   each end = []
   each (more tree rest) = f tree ++ each rest
 
--- what each tree gives, in their order, where this depends on what stands before it, the state `s`, and on the trees
--- after it; `next` is the state after a tree
+-- what each tree gives, in their order, where this depends on what stands before it, the state `s`, and on
+-- the trees after it; `next` is the state after a tree
 module _ {A S : Type 0} (f : S → Trees → Tree → List A) (next : Tree → S → S) where
   abbrev pub along : S → Trees → List A
   along s end = []
@@ -86,7 +88,8 @@ module _ (P : Tree → Type 0) where
   AreEach (more tree rest) = P tree × AreEach rest
 
 abbrev mutual
-  -- the tokens that a tree is written with: a word, or an open bracket, those of its trees and a close bracket
+  -- the tokens that a tree is written with: a word, or an open bracket, those of its trees and a close
+  -- bracket
   pub written : Tree → List Token
   written (word span) = token.Word span ∷ []
   written (list span trees) = token.Open span.from ∷ written_all trees ++ token.Close (span.to - 1) ∷ []
@@ -101,12 +104,13 @@ abbrev pub AreTreesOf : List ℕ → Trees → Type 0
 AreTreesOf bytes trees = written_all trees ≡ tokens bytes
 
 abbrev mutual
-  -- The tree has a byte and lies from the place `low` to the place `high`; the trees of a list lie between its
-  -- brackets.
+  -- The tree has a byte and lies from the place `low` to the place `high`; the trees of a list lie between
+  -- its brackets.
   pub LiesBetween : ℕ → ℕ → Tree → Type 0
   LiesBetween low high (word span) = (low ≤ span.from) × (span.from < span.to) × (span.to ≤ high)
   LiesBetween low high (list span trees) =
-      (low ≤ span.from) × (span.from < span.to) × (span.to ≤ high) × LieBetween (span.from + 1) (span.to - 1) trees
+      (low ≤ span.from) × (span.from < span.to) × (span.to ≤ high) ×
+      LieBetween (span.from + 1) (span.to - 1) trees
 
   -- The trees lie one after another, from the place `low` to the place `high`.
   pub LieBetween : ℕ → ℕ → Trees → Type 0

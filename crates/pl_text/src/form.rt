@@ -15,8 +15,8 @@ pub struct Span {
 
 /// A word or a list, each with the part of the file that it was read from.
 ///
-/// A list's span runs from its open bracket to one past its close bracket. Contracts see a form as its tree, which
-/// is defined in `specs/Trees`.
+/// A list's span runs from its open bracket to one past its close bracket. Contracts see a form as its tree,
+/// which is defined in `specs/Trees`.
 #[derive(Debug, Drop)]
 pub enum Form {
     /// A word.

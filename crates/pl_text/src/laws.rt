@@ -1,9 +1,21 @@
 //! What the definitions of this crate have in common: each function here is empty, and its contract is a law.
 
-ghost use Rattle.pl_text.specs.Laws.{TokensAreThose, TreesAreOne, TreesArePlaced, FormsAreOne, FaultIsOne, FormsOrFault, FoldingKeepsFolded};
+ghost use Rattle.std.specs.Prelude.{◌≡◌};
+ghost use Rattle.pl_text.specs.Limits.{most_bytes, most_open};
+ghost use Rattle.pl_text.specs.Laws.{TokensAreThose, TreesAreOne, TreesArePlaced, FormsAreOne, FaultIsOne};
+ghost use Rattle.pl_text.specs.Laws.{FormsOrFault, FoldingKeepsFolded};
 
-/// The tokens of a file, which are defined byte by byte, are its brackets and its longest runs of word bytes that
-/// stand outside comments, by rising place.
+use crate::fault::MAX_DEPTH;
+use crate::reader::MAX_BYTES;
+
+/// The limits that callers may name are those of the definitions.
+pub fn limits_are_those()
+    ensures bytes { MAX_BYTES ≡ most_bytes }
+    ensures depth { MAX_DEPTH ≡ most_open }
+{}
+
+/// The tokens of a file, which are defined byte by byte, are its brackets and its longest runs of word bytes
+/// that stand outside comments, by rising place.
 pub fn tokens_are_those()
     ensures { TokensAreThose }
 {}

@@ -1,9 +1,9 @@
 //! The forms of a file: its words and lists, or the one fault for which it has none.
 //!
-//! `forms` reads a whole file. What a token, a form and a fault are is said in `specs/`: `Bytes`, `Comments` and
-//! `Tokens` go from the bytes to the tokens, `Trees` says what forms are, with which tokens they are written and where
-//! they lie, and `TextFaults` says what can be wrong. `Words` and `Lines` say how words are compared and places are
-//! shown.
+//! `forms` reads a whole file. What a token, a form and a fault are is said in `specs/`: `Bytes`, `Comments`
+//! and `Tokens` go from the bytes to the tokens, `Trees` says what forms are, with which tokens they are
+//! written and where they lie, and `TextFaults` says what can be wrong. `Words` and `Lines` say how words are
+//! compared and places are shown.
 #![tactic(auto)]
 
 mod fault;

@@ -17,9 +17,9 @@ pub const MAX_BYTES: usize = 16777216;
 
 /// The forms of a file, or the fault for which it has none.
 ///
-/// The file is read once, from left to right, with a stack of its own. The time is linear in the bytes; the memory
-/// is 40 bytes or so for each form, whose place in its list is taken when the list ends. `TextEnd::Memory` alone may
-/// come for any file.
+/// The file is read once, from left to right, with a stack of its own. The time is linear in the bytes; the
+/// memory is 40 bytes or so for each form, whose place in its list is taken when the list ends.
+/// `TextEnd::Memory` alone may come for any file.
 pub fn forms(alloc: Global, bytes: &[u8]) -> Result<FormList, TextEnd>
     requires { length bytes.now ≤ most_bytes }
     // The forms are written with the tokens of the file, and the file has no fault.

@@ -41,7 +41,8 @@ returns c =
       c.loop-left.invariant.0 ∙ pairs_end scope _ c.loop-left.left.now past,
       (
         sym (c.loop-left.invariant.1 ∙
-            ap (λ l. c.loop-left.values.condition.items ++ l) (keyed_end scope (codes ":precondition") _ past) ∙
+            ap (λ l. c.loop-left.values.condition.items ++ l)
+            (keyed_end scope (codes ":precondition") _ past) ∙
             append-nil _),
         sym (c.loop-left.invariant.2 ∙
             ap (λ l. c.loop-left.values.effect.items ++ l) (keyed_end scope (codes ":effect") _ past) ∙

@@ -1,7 +1,8 @@
 use Rattle.std.proofs.Common.{length, ap, ◌∙◌}
 use Rattle.pl_check.specs.Elements.{trees}
 use Rattle.pl_check.specs.Known.{sections}
-use Rattle.pl_check.proofs.CheckingLemmas.{sections_few, problem_refused, parts_ok, listed_parts, states_parts, checked}
+use Rattle.pl_check.proofs.CheckingLemmas.{sections_few, problem_refused, parts_ok, listed_parts}
+use Rattle.pl_check.proofs.CheckingLemmas.{states_parts, checked}
 use Rattle.pl_check.proofs.PlacedLemmas.{forms_few}
 use Rattle.pl_check.proofs.checking.check_forms.Goals as goal
 
@@ -25,7 +26,8 @@ returns-in-Err-read_problem c =
     problem_refused c.args.domain.now c.args.problem.now (trees c.args.domain_forms.now)
     (trees c.args.problem_forms.items) (trees c.sections-domain_sections.result.now)
     (trees c.sections-problem_sections.result.now) c.in-Ok.known c.in-Err-read_problem.end
-    c.end_in-in-Err-read_problem.result c.sections-domain_sections.ensures (c.sections-problem_sections.ensures ∙ ap (λ fs. sections (trees fs)) c.as_slice.ensures.value)
+    c.end_in-in-Err-read_problem.result c.sections-domain_sections.ensures
+    (c.sections-problem_sections.ensures ∙ ap (λ fs. sections (trees fs)) c.as_slice.ensures.value)
     c.in-Ok.ensures c.end_in-in-Err-read_problem.ensures c.in-Ok-read_domain.ensures.0
     c.in-Err-read_problem.ensures
 
@@ -44,7 +46,8 @@ task_of-requires c =
 
 pub returns-in-Ok-task_of : goal.returns-in-Ok-task_of
 returns-in-Ok-task_of c =
-    let in_problem = c.sections-problem_sections.ensures ∙ ap (λ fs. sections (trees fs)) c.as_slice.ensures.value in
+    let in_problem = c.sections-problem_sections.ensures ∙
+    ap (λ fs. sections (trees fs)) c.as_slice.ensures.value in
     checked c.args.domain.now c.args.problem.now (trees c.args.domain_forms.now)
     (trees c.args.problem_forms.items) (trees c.sections-domain_sections.result.now)
     (trees c.sections-problem_sections.result.now) c.in-Ok.known c.in-Ok-task_of.task
@@ -55,6 +58,7 @@ returns-in-Ok-task_of c =
     (trees c.sections-problem_sections.result.now) c.in-Ok.known c.in-Ok-lists_of.lists.types.items
     c.in-Ok-lists_of.lists.objects.items c.in-Ok-read_domain.schemas.items
     c.in-Ok-read_problem.stated.init.items c.in-Ok-read_problem.stated.goal.items c.in-Ok-task_of.task
-    c.sections-domain_sections.ensures in_problem c.in-Ok-lists_of.ensures.types c.in-Ok-lists_of.ensures.objects
+    c.sections-domain_sections.ensures in_problem c.in-Ok-lists_of.ensures.types
+    c.in-Ok-lists_of.ensures.objects
     c.in-Ok-read_domain.ensures.1 c.in-Ok-read_problem.ensures.1.0 c.in-Ok-read_problem.ensures.1.1
     c.in-Ok-task_of.ensures)

@@ -11,7 +11,8 @@ use Rattle.pl_check.proofs.conditions.+read_condition.Given as goal
 abbrev pub invariant-loop-conjunct : goal.invariant-loop-conjunct
 invariant-loop-conjunct l =
     (first (flat_map (condition_faults (scope_in l.scope) l.equality) (trees l.inner)) ≡
-    first (flat_map (condition_faults (scope_in l.scope) l.equality) (trees (drop l.conjunct-index l.inner)))) ×
+    first (flat_map (condition_faults (scope_in l.scope) l.equality) (trees (drop l.conjunct-index l.inner))))
+    ×
     (l.initial.literals.items ++ flat_map (literals_of (scope_in l.scope)) (trees l.inner) ≡
     l.literals.items ++ flat_map (literals_of (scope_in l.scope)) (trees (drop l.conjunct-index l.inner)))
 

@@ -13,4 +13,5 @@ invariant-loop-form l =
     (first (flat_map (basic_faults (scope_in l.scope) l.equality) (trees l.forms)) ≡
     first (flat_map (basic_faults (scope_in l.scope) l.equality) (trees (drop l.form-index l.forms)))) ×
     (l.initial.literals.items ++ map negated (flat_map (basic_literal (scope_in l.scope)) (trees l.forms)) ≡
-    l.literals.items ++ map negated (flat_map (basic_literal (scope_in l.scope)) (trees (drop l.form-index l.forms))))
+    l.literals.items ++ map negated (flat_map (basic_literal (scope_in l.scope))
+    (trees (drop l.form-index l.forms))))

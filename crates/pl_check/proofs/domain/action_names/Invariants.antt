@@ -10,7 +10,8 @@ use Rattle.pl_check.proofs.domain.action_names.Given as goal
 abbrev pub invariant-loop-section : goal.invariant-loop-section
 invariant-loop-section l = record {
   names : texts l.names.items ++
-      map (action_name l.text) (sections_of l.text (codes ":action") (trees (drop l.section-index l.sections)))
+      map (action_name l.text) (sections_of l.text (codes ":action")
+      (trees (drop l.section-index l.sections)))
       ≡ map (action_name l.text) (sections_of l.text (codes ":action") (trees l.sections));
   few : length l.names.items ≤ l.section-index;
 }

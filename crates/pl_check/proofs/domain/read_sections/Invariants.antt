@@ -13,13 +13,16 @@ use Rattle.pl_check.proofs.domain.read_sections.Given as goal
 -- the faults of what is left decide, its schemas are still to come, and the names of its actions follow
 abbrev pub invariant-loop-section : goal.invariant-loop-section
 invariant-loop-section l = record {
-  faults : first (spec.sections_faults role.Domain l.text l.known (record { keys = []; actions = [] }) (trees l.sections)) ≡
+  faults : first (spec.sections_faults role.Domain l.text l.known (record { keys = []; actions = [] })
+      (trees l.sections)) ≡
       first (spec.sections_faults role.Domain l.text l.known
       (record { keys = texts l.earlier.items; actions = take (length l.schemas.items) l.actions })
       (trees (drop l.section-index l.sections)));
   schemas : l.schemas.items ++
-      map (stated_schema l.text l.known) (sections_of l.text (codes ":action") (trees (drop l.section-index l.sections)))
+      map (stated_schema l.text l.known)
+      (sections_of l.text (codes ":action") (trees (drop l.section-index l.sections)))
       ≡ map (stated_schema l.text l.known) (sections_of l.text (codes ":action") (trees l.sections));
   names : drop (length l.schemas.items) l.actions ≡
-      map (action_name l.text) (sections_of l.text (codes ":action") (trees (drop l.section-index l.sections)));
+      map (action_name l.text) (sections_of l.text (codes ":action")
+      (trees (drop l.section-index l.sections)));
 }

@@ -11,5 +11,6 @@ pub returns-in-Err : goal.returns-in-Err
 returns-in-Err c =
     subst (λ (fs : List Form). Refuses (file_faults role_of.Problem c.args.text.now c.args.known.now
     (length c.args.text.now) (trees fs)) c.in-Err.end) c.as_slice.ensures.value
-    (opens_refuses role_of.Problem c.args.text.now c.args.known.now (trees c.as_slice.result.now) c.read_file.result
+    (opens_refuses role_of.Problem c.args.text.now c.args.known.now
+    (trees c.as_slice.result.now) c.read_file.result
     c.in-Err.end c.in-Err.is (c.read_file.ensures c.args.known.now))

@@ -7,6 +7,7 @@ use Rattle.pl_check.proofs.known.collect_types.Given as goal
 
 abbrev pub invariant-loop-form : goal.invariant-loop-form
 invariant-loop-form l = record {
-  names : texts l.names.items ≡ codes "object" ∷ filter is_name (map (word_of l.text) (trees (take l.form-index l.forms)));
+  names : texts l.names.items ≡ codes "object" ∷ filter is_name
+      (map (word_of l.text) (trees (take l.form-index l.forms)));
   few : length l.names.items ≤ l.form-index + 1;
 }

@@ -8,5 +8,6 @@ use Rattle.pl_check.proofs.predicates.declared_names.Given as goal
 abbrev pub invariant-loop-form : goal.invariant-loop-form
 invariant-loop-form l =
     (map (declared_name l.text) (declarations l.text (trees l.forms)) ≡
-    texts l.names.items ++ map (declared_name l.text) (declarations l.text (trees (drop l.form-index l.forms)))) ×
+    texts l.names.items ++ map (declared_name l.text)
+    (declarations l.text (trees (drop l.form-index l.forms)))) ×
     (length l.names.items ≤ l.form-index)

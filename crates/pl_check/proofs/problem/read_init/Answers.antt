@@ -17,7 +17,9 @@ loop-form-preserved c = record {
       c.loop-form.invariant.faults c.in_ok-read_ground.ensures.0;
   values =
       taken_value (ground_atom (scope_in c.args.scope.now)) c.loop-form.form-iterator.rest.items
-      c.next.new.self.rest.items c.in-Some.form c.in_ok-read_ground.field-0 c.loop-form.atoms.items c.push.new.list.items
+      c.next.new.self.rest.items c.in-Some.form c.in_ok-read_ground.field-0
+      c.loop-form.atoms.items c.push.new.list.items
       (c.args.atoms.now.items ++ map (ground_atom (scope_in c.args.scope.now)) (trees c.args.forms.items))
-      c.in-Some.ensures.steps.0 c.in_ok-read_ground.ensures.1 c.in_ok-push.ensures.ok c.loop-form.invariant.values;
+      c.in-Some.ensures.steps.0 c.in_ok-read_ground.ensures.1 c.in_ok-push.ensures.ok
+      c.loop-form.invariant.values;
 }

@@ -9,7 +9,8 @@ use Rattle.pl_check.specs.Known.{all_after}
 use Rattle.pl_check.specs.Literals.{literals_of, ground_atom}
 use Rattle.pl_check.specs.Sections.{problem_scope}
 use Rattle.pl_check.proofs.SectionLemmas.{no_parameters}
-use Rattle.pl_check.proofs.TakenLemmas.{faults_after, section_taken_refused, section_taken_passed, init_taken, goal_taken, none_left, values_left}
+use Rattle.pl_check.proofs.TakenLemmas.{faults_after, section_taken_refused, section_taken_passed, init_taken}
+use Rattle.pl_check.proofs.TakenLemmas.{goal_taken, none_left, values_left}
 use Rattle.pl_check.proofs.problem.read_problem_sections.Goals as goal
 
 pub returns-in-Err : goal.returns-in-Err
@@ -33,7 +34,8 @@ loop-section-preserved c =
       count = (let longer = ap length c.in-Some.ensures.steps.0 in omega arith);
       faults =
           section_taken_passed c.args.text.now c.args.known.now _ c.as_slice.result.now c.push.new.list.items
-          c.in-Ok.key c.loop-section.section-iterator.rest.items c.next.new.self.rest.items c.in-Some.section same
+          c.in-Ok.key c.loop-section.section-iterator.rest.items c.next.new.self.rest.items c.in-Some.section
+          same
           c.in-Some.ensures.steps.0
           (c.in_ok-push.ensures.ok ∙ ap (λ (es : List (Bor (List ℕ))). es ++ c.in-Ok.key ∷ [])
           (sym c.as_slice.ensures.value))
@@ -43,11 +45,13 @@ loop-section-preserved c =
           (trees c.loop-section.section-iterator.rest.items)))
           c.as_slice.ensures.value ∙ c.loop-section.invariant.faults);
       init =
-          init_taken c.args.text.now c.args.known.now _ (codes ":init") c.loop-section.section-iterator.rest.items
+          init_taken c.args.text.now c.args.known.now _ (codes ":init")
+          c.loop-section.section-iterator.rest.items
           c.next.new.self.rest.items c.in-Some.section c.loop-section.stated.init.items _ _ same
           c.in-Some.ensures.steps.0 c.in-Ok.ensures.1.2 c.loop-section.invariant.init;
       goal =
-          goal_taken c.args.text.now c.args.known.now _ (codes ":goal") c.loop-section.section-iterator.rest.items
+          goal_taken c.args.text.now c.args.known.now _ (codes ":goal")
+          c.loop-section.section-iterator.rest.items
           c.next.new.self.rest.items c.in-Some.section c.loop-section.stated.goal.items _ _ same
           c.in-Some.ensures.steps.0 c.in-Ok.ensures.1.3 c.loop-section.invariant.goal;
     }
@@ -65,7 +69,8 @@ returns c =
             (map (ground_atom (problem_scope c.args.text.now c.args.known.now))
             (all_after c.args.text.now (codes ":init") (trees c.args.sections.items))) none refl
             c.loop-section.invariant.init,
-        values_left (λ (l : List Tree). flat_map (literals_of (problem_scope c.args.text.now c.args.known.now))
+        values_left (λ (l : List Tree). flat_map
+            (literals_of (problem_scope c.args.text.now c.args.known.now))
             (all_after c.args.text.now (codes ":goal") l)) left c.loop-section.stated.goal.items
             (flat_map (literals_of (problem_scope c.args.text.now c.args.known.now))
             (all_after c.args.text.now (codes ":goal") (trees c.args.sections.items))) none refl

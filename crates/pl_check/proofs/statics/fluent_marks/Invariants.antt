@@ -4,4 +4,5 @@ use Rattle.pl_task.specs.WellFormed.{is_fluent}
 use Rattle.pl_check.proofs.statics.fluent_marks.Given as goal
 
 abbrev pub invariant-loop-schema : goal.invariant-loop-schema
-invariant-loop-schema l = (p : ℕ) → p < l.count → get_or l.fluent p false ≡ is_fluent (take l.schema-index l.schemas) p
+invariant-loop-schema l = (p : ℕ) → p < l.count →
+    get_or l.fluent p false ≡ is_fluent (take l.schema-index l.schemas) p

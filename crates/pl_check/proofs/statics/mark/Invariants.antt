@@ -6,4 +6,5 @@ use Rattle.pl_check.proofs.statics.mark.Given as goal
 
 abbrev pub invariant-loop-atom : goal.invariant-loop-atom
 invariant-loop-atom l = (p : ℕ) → p < length l.initial.fluent →
-    get_or l.fluent p false ≡ (get_or l.initial.fluent p false || list_any (is_of_predicate p) (take l.atom-index l.atoms))
+    get_or l.fluent p false ≡ (get_or l.initial.fluent p false || list_any (is_of_predicate p)
+    (take l.atom-index l.atoms))

@@ -6,4 +6,5 @@ use Rattle.pl_check.proofs.task.add_types.Given as goal
 
 abbrev pub invariant-loop-item : goal.invariant-loop-item
 invariant-loop-item l =
-    AreAdded (first_appearances l.names) (map numbered_in (take l.item-index l.items)) (lists_in l.initial.lists.items) (lists_in l.lists.items)
+    AreAdded (first_appearances l.names) (map numbered_in (take l.item-index l.items))
+    (lists_in l.initial.lists.items) (lists_in l.lists.items)

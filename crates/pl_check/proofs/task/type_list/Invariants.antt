@@ -8,6 +8,8 @@ use Rattle.pl_check.proofs.task.type_list.Given as goal
 
 abbrev pub invariant-loop-i : goal.invariant-loop-i
 invariant-loop-i l = record {
-  left : AreLeft l.known.types (typed_items l.text false (trees l.forms)) (texts l.name-items) (lists_in l.parents.items) l.i;
-  made : l.types.items ≡ map (type_of l.known.types (typed_items l.text false (trees l.forms))) (take l.i (texts l.name-items));
+  left : AreLeft l.known.types (typed_items l.text false (trees l.forms)) (texts l.name-items)
+      (lists_in l.parents.items) l.i;
+  made : l.types.items ≡ map (type_of l.known.types (typed_items l.text false (trees l.forms)))
+      (take l.i (texts l.name-items));
 }

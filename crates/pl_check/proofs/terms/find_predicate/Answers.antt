@@ -17,6 +17,8 @@ returns c =
     let first : c.in-Some.number < length c.predicates.result.now =
     slice_get_within _ _ _ (number_place _ _ _ (sym c.in-Some.ensures)) in
     omega (arith, first, c.predicates.ensures.as_many) in (
-      ap (λ names. number_among names c.args.name.now) (sym c.predicates.ensures.names) ∙ sym c.in-Some.ensures,
-      slice_get-get_or _ _ 0 below ∙ ap (λ l. Some (get_or l c.in-Some.number 0)) (sym c.arities.ensures.arities),
+      ap (λ names. number_among names c.args.name.now) (sym c.predicates.ensures.names) ∙
+          sym c.in-Some.ensures,
+      slice_get-get_or _ _ 0 below ∙ ap (λ l. Some (get_or l c.in-Some.number 0))
+          (sym c.arities.ensures.arities),
     )

@@ -1,9 +1,11 @@
 use Rattle.std.proofs.Common.{◌+◌, refl, sym, subst}
 use Rattle.std.proofs.lemmas.Result.{err_from_is_err_and}
 use Rattle.pl_text.specs.Reading.{IsRead}
-use Rattle.pl_text.proofs.ReadingLemmas.{step-open, step-close, step-blank, step-comment, step-word, ends-bad, ends-stray, ends-deep, ends-enter, ends-leave}
+use Rattle.pl_text.proofs.ReadingLemmas.{step-open, step-close, step-blank, step-comment, step-word, ends-bad}
+use Rattle.pl_text.proofs.ReadingLemmas.{ends-stray, ends-deep, ends-enter, ends-leave}
 use Rattle.pl_text.proofs.reading.Reading.step.Goals as goal
-use Rattle.pl_text.proofs.reading.Reading.step.Goals.{in-Open+in_ok-enter-in-Open, in-Close+in_ok-leave-in-Close, in-Blank}
+use Rattle.pl_text.proofs.reading.Reading.step.Goals.{in-Open+in_ok-enter-in-Open}
+use Rattle.pl_text.proofs.reading.Reading.step.Goals.{in-Close+in_ok-leave-in-Close, in-Blank}
 
 pub returns-in_err-enter-in-Open-clause-err : goal.returns-in_err-enter-in-Open-clause-err
 returns-in_err-enter-in-Open-clause-err c =
