@@ -22,6 +22,7 @@ use Rattle.pl_task.proofs.StateLemmas.{state_of-members}
 use Rattle.pl_registry.specs.Cut.{ReachesNoGoal}
 use Rattle.pl_registry.proofs.Lists.{Contains-nil, Contains-cons_cases, Contains-map_cases}
 use Rattle.pl_registry.proofs.Lists.{Contains-cons_first, Contains-cons_rest}
+use Rattle.std.proofs.lemmas.Bool.{not-true}
 
 -- an object of a ground atom is what its term stands for
 object_at : (args : List ℕ) (terms : List Term) (i : ℕ) (t : Term) → slice_get terms i ≡ Some t
@@ -84,10 +85,6 @@ kept_true : (s : State) (deletes adds : List Atom) (a : Atom) → s a ≡ true �
 kept_true s deletes adds a there none = rw (there, none)
     (elim (cases_Bool (state_of adds a)) [ inl y ↦ rw y refl | inr n ↦ rw n refl ])
 
-missed_wanted : (b : Bool) → not b ≡ true → b ≡ false
-missed_wanted true e = absurd (false≢true e)
-missed_wanted false e = refl
-
 missed_unwanted : (b : Bool) → not (not b) ≡ true → b ≡ true
 missed_unwanted true e = refl
 missed_unwanted false e = absurd (false≢true e)
@@ -110,7 +107,7 @@ still_stuck task s g step able stuck = record { missed = missed; none = stuck.no
 
     by : (w : Bool) → g.wanted ≡ w → IsTrue (not (is_goal_met (result_of task s step) g))
     by true wanted =
-        let gone : s g.atom ≡ false = missed_wanted (s g.atom)
+        let gone : s g.atom ≡ false = not-true (s g.atom)
         (subst (λ b. not (cond b (s g.atom) (not (s g.atom))) ≡ true) wanted stuck.missed) in
         let none = not_given step.args able.schema.add g.atom
         (subst (λ b. All (λ effect. CouldGive effect g.atom → ⊥)

@@ -16,10 +16,7 @@ use Rattle.pl_task.specs.declared.task.Task.{Task}
 use Rattle.pl_task.specs.States.{State}
 use Rattle.pl_task.specs.Goal.{is_goal_met, CouldGive, IsStuck, IsHopeless}
 use Rattle.pl_hooks.specs.Hopeless.{have_object, could_stand, could_give, none_give, is_stuck, is_hopeless}
-
-not_true : (b : Bool) → not b ≡ true → b ≡ false
-not_true true h = absurd (false≢true h)
-not_true false h = refl
+use Rattle.std.proofs.lemmas.Bool.{not-true}
 
 not_from : (b : Bool) → (b ≡ true → ⊥) → not b ≡ true
 not_from true none = absurd (none refl)
@@ -54,7 +51,7 @@ have_object-sound n object (term.Object m ∷ terms) (o ∷ objects) h (suc j) a
 have_object-sound n object (term.Parameter m ∷ terms) (o ∷ objects) h zero at =
     let parts = and_parts (not (m == n) || o == object) (have_object n object terms objects) h in
     elim (or_cases (not (m == n)) (o == object) parts.0) [
-      | inl other ↦ absurd (false≢true (sym (not_true (m == n) other) ∙ eq-eqb m n (parameter_same m n at)))
+      | inl other ↦ absurd (false≢true (sym (not-true (m == n) other) ∙ eq-eqb m n (parameter_same m n at)))
       | inr same ↦ ap Some (eqb-true o object same)
     ]
 have_object-sound n object (term.Parameter m ∷ terms) (o ∷ objects) h (suc j) at =
@@ -200,7 +197,7 @@ NoneGive effects atom = All (λ effect. CouldGive effect atom → ⊥) effects
 none_give-sound : (effects : List Lifted) (atom : Atom) → none_give effects atom ≡ true →
     NoneGive effects atom
 none_give-sound effects atom h k d l could =
-    false≢true (sym (not_true (could_give (get_or effects k d) atom)
+    false≢true (sym (not-true (could_give (get_or effects k d) atom)
     (AllPass-from_list_all (λ effect. not (could_give effect atom)) effects h k d l))
     ∙ could_give-from (get_or effects k d) atom could)
 

@@ -1,14 +1,11 @@
 -- Trying one step: the states of a registry, what the cases of a trial come to, and that no entry is lost.
-use Rattle.std.proofs.Common.{◌≡◌, ◌⊎◌, ◌<◌, ◌≤◌, ℕ, Bool, false, IsFalse, List, [], length, get_or, All, Bor}
+use Rattle.std.proofs.Common.{◌≡◌, ◌⊎◌, ◌<◌, ℕ, Bool, false, IsFalse, List, [], length, All, Bor}
 use Rattle.std.proofs.Common.{Option, Some, None, Result, Ok, Err, IfErr, sym, ap, ◌∙◌, subst, inl, inr}
-use Rattle.std.proofs.Common.{arith}
 use Rattle.std.specs.Fn.{FnReturnsAt}
-use Rattle.std.proofs.lemmas.Option.{get_or_from_slice_get, slice_get_within}
 use denote.Param.Members.{Shared}
 use Rattle.pl_task.specs.Instance.{Instance}
 use Rattle.pl_task.specs.declared.task.Task.{Task}
-use Rattle.pl_task.specs.declared.data.Schema.{Schema}
-use Rattle.pl_task.specs.States.{result_of, IsStep}
+use Rattle.pl_task.specs.States.{result_of}
 use Rattle.pl_task.specs.Goal.{is_goal}
 use Rattle.pl_state.specs.StateOf.{state_in, IsStateOf}
 use Rattle.pl_registry.specs.declared.added.Added.{Added}
@@ -38,16 +35,6 @@ pub counts_for : {F : Type 0} (calls : Shared F (Bor (List ℕ) × Unit {0}) ℕ
     other ≡ task → IsUnmetCount calls task rank → IsUnmetCount calls other rank
 counts_for calls task other rank same counts = subst (λ (t : Task). IsUnmetCount calls t rank)
     (sym same) counts
-
--- a step of a task has at most 64 objects
-pub few_objects : (task : Task) (step : Instance) → IsStep task step → length step.args ≤ 64
-few_objects task step is =
-    let within : step.schema < length task.schemas = slice_get_within task.schemas step.schema is.schema
-    is.found in
-    let of = task.schemas_ok.each step.schema is.schema within in
-    let same : get_or task.schemas step.schema is.schema ≡ is.schema =
-    get_or_from_slice_get task.schemas step.schema is.schema is.schema is.found in
-    omega (arith, is.many, of.few_parameters, ap (λ (s : Schema). length s.parameters) same)
 
 -- an error clause of a result that is an error
 pub if_err : {T E : Type 0} (result : Result T E) (P : Type 0) → P → IfErr result (λ (e : E). P)

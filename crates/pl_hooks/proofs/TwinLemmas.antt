@@ -15,15 +15,10 @@ use Rattle.pl_task.specs.declared.data.Term.TheVariants as term
 use Rattle.pl_task.specs.declared.data.TypeDef.{TypeDef}
 use Rattle.pl_task.specs.WellFormed.{AreTypes, ArePredicates, AreSchemas, AreInitial, IsGoalOf, IsSchemaOf}
 use Rattle.pl_task.specs.WellFormed.{IsLiteralOf, IsLiftedOf, IsTermOf, IsAtomOf, is_fluent}
-use Rattle.pl_state.specs.Layout.{atom_of}
+use Rattle.pl_task.specs.Atoms.{atom_of}
+use Rattle.pl_samples.proofs.WellFormed.{one, two}
 use Rattle.pl_hooks.specs.Twins.{bare, pair_definition, link_definition, mark_definition, twin_definitions}
 use Rattle.pl_hooks.specs.Twins.{twice, marked, nobody, twin}
-
-one : (X : Type 0) (P : X → Type 0) (x : X) → P x → All P (x ∷ [])
-one X P x h = All-cons P x [] h (All-nil P)
-
-two : (X : Type 0) (P : X → Type 0) (x y : X) → P x → P y → All P (x ∷ y ∷ [])
-two X P x y h g = All-cons P x (y ∷ []) h (one X P y g)
 
 first_is : (objects : ℕ) → IsTermOf objects 1 (term.Parameter 0)
 first_is objects = record {

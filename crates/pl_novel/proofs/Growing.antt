@@ -2,7 +2,7 @@
 -- after.
 use Rattle.std.proofs.Common.{◌≡◌, ◌⊎◌, ◌↔◌, ◌<◌, ◌≤◌, ℕ, Bool, true, false, List, [], map, length, get_or}
 use Rattle.std.proofs.Common.{nat_lt, ◌||◌, IsTrue, refl, sym, ap, ◌∙◌, subst, inl, inr, All, Contains}
-use Rattle.std.proofs.lemmas.Bool.{cases_Bool, false≢true, ltb-true, ltb-false}
+use Rattle.std.proofs.lemmas.Bool.{cases_Bool, ltb-true, ltb-false}
 use Rattle.std.proofs.lemmas.List.Elements.{All-contains, All-weaker, Contains-get_or, Contains-append_left}
 use Rattle.std.proofs.lemmas.List.Elements.{Contains-append_right, Contains-append_cases}
 use Rattle.pl_task.specs.declared.data.Atom.{Atom}
@@ -17,6 +17,7 @@ use Rattle.pl_novel.proofs.Lists.{AreOnce, all_members, all_keep, all_once, all_
 use Rattle.pl_novel.proofs.Lists.{extends_has, grown_fresh, not_grown}
 use Rattle.pl_novel.proofs.Pairs.{same_keys}
 use Rattle.pl_novel.proofs.NotedSets.{pair_on, set_on, one_pair, first_of, not_one_and_two}
+use Rattle.std.proofs.lemmas.Bool.{or_parts}
 
 -- what holds of the old values and of those that were added holds of all
 all_of : (P : List ℕ → Type 0) (old new values : List (List ℕ)) → new ≡ with_all old values → All P old
@@ -33,10 +34,6 @@ less_from a b h = ltb-true a b h
 
 not_less_from : (a b : ℕ) → nat_lt a b ≡ false → b ≤ a
 not_less_from a b h = ltb-false a b h
-
-none_of : (a b : Bool) → (a || b) ≡ false → (a ≡ false) × (b ≡ false)
-none_of true b h = absurd (false≢true (sym h))
-none_of false b h = (refl, h)
 
 -- a noted set stays noted
 pub sets_kept : (width : ℕ) (old_keys old_pairs keys pairs more_pairs : List (List ℕ))
@@ -209,7 +206,7 @@ module _ (task : Task) (s : State) (width : ℕ) (old_keys old_pairs keys pairs 
     ],
     λ h. elim (cases_Bool grown) [
       | inl yes_so ↦ yes_so
-      | inr not_so ↦ (let (a, b) = none_of (nat_lt (length old_keys) (length keys))
+      | inr not_so ↦ (let (a, b) = or_parts (nat_lt (length old_keys) (length keys))
           (nat_lt (length old_pairs) (length pairs)) (sym is ∙ not_so) in
           absurd (none_new (not_less_from (length old_keys) (length keys) a)
           (not_less_from (length old_pairs) (length pairs) b) h))

@@ -15,6 +15,7 @@ use Rattle.pl_novel.specs.Keys.{atom_by, key_at, pair_of, one_set, two_set, set_
 use Rattle.pl_novel.specs.Keys.{IsKept, Extends}
 use Rattle.pl_novel.proofs.Lists.{AreOnce}
 use Rattle.pl_novel.proofs.Pairs.{same_keys, one_is_set, two_is_set, key_back}
+use Rattle.pl_novel.proofs.Numberings.{longer}
 
 -- an old list, read behind the new one
 pub taken_back : (old new back : List (List ℕ)) (n : ℕ) → Extends old new → n ≡ length old → back ≡ take n new
@@ -26,9 +27,6 @@ taken_back old new back n e l b =
 pub key_kept : (old new : List (List ℕ)) (n : ℕ) → Extends old new → n < length old
     → key_at new n ≡ key_at old n
 key_kept old new n e l = ap (λ ks. key_at ks n) e.is ∙ get_or_append_left old e.more [] n l
-
-pub longer : (old new : List (List ℕ)) → Extends old new → length old ≤ length new
-longer old new e = let l = ap length e.is in let a = length-append old e.more in omega (arith, l, a)
 
 -- a pair of keys of the old list is one of keys of the new one, and stands for the same set
 pub pair_on : (old new : List (List ℕ)) (pair : List ℕ) → Extends old new → IsPairIn old pair

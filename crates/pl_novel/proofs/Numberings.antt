@@ -62,7 +62,7 @@ reads_on old new (n ∷ numbers) e within =
     let rest = reads_on old new numbers e (All-tail (λ m. m < length old) n numbers within) in
     (λ i. here i ∷ rest i)
 
-longer : (old new : List (List ℕ)) → Extends old new → length old ≤ length new
+pub longer : (old new : List (List ℕ)) → Extends old new → length old ≤ length new
 longer old new e = let l = ap length e.is in let a = length-append old e.more in omega (arith, l, a)
 
 within_on : (old new : List (List ℕ)) (numbers : List ℕ) → Extends old new → All (λ n. n < length old) numbers

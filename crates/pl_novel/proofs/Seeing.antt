@@ -1,12 +1,12 @@
 -- Noted sets and the states seen: what a search means by a new state.
-use Rattle.std.proofs.Common.{◌≡◌, ◌⊎◌, ◌<◌, ◌≤◌, ℕ, Bool, true, false, not, ◌||◌, List, [], ◌∷◌, ◌++◌}
+use Rattle.std.proofs.Common.{◌≡◌, ◌⊎◌, ◌<◌, ◌≤◌, ℕ, true, not, ◌||◌, List, [], ◌∷◌, ◌++◌}
 use Rattle.std.proofs.Common.{length, get_or, Some, slice_get, IsTrue, refl, sym, ap, ◌∙◌, subst, inl, inr}
 use Rattle.std.proofs.Common.{All, Any, Contains, arith}
 use Rattle.std.specs.List.{list_any}
 use Rattle.std.specs.Ordering.{ordering_reverse}
 use Rattle.std.specs.declared.cmp.Ordering.{Ordering}
 use Rattle.std.specs.declared.cmp.Ordering.TheVariants.{Less, Equal, Greater}
-use Rattle.std.proofs.lemmas.Bool.{cases_Bool, false≢true, eqb-true}
+use Rattle.std.proofs.lemmas.Bool.{cases_Bool, eqb-true}
 use Rattle.std.proofs.lemmas.Cmp.{nat_list_cmp_total}
 use Rattle.std.proofs.lemmas.List.{get_or_default}
 use Rattle.std.proofs.lemmas.List.Elements.{All-contains, All-weaker, Contains-get_or, Contains-append_left}
@@ -31,16 +31,13 @@ use Rattle.pl_novel.specs.Noting.{Noted, HasNewSet, NotesState}
 use Rattle.pl_novel.specs.Keys.{atom_by}
 use Rattle.pl_novel.specs.Laws.{AreSetsSeen, NewSetsAreNovel, NotingIsSeeing, NothingIsSeen}
 use Rattle.pl_novel.proofs.Pairs.{one_is_set, two_is_set}
+use Rattle.std.proofs.lemmas.Bool.{not-false}
 
 -- a predicate is fluent by its definition exactly where an effect names it
-not_false : (b : Bool) → not b ≡ false → b ≡ true
-not_false true h = refl
-not_false false h = absurd (false≢true (sym h))
-
 fluent_to : (task : Task) (p : ℕ) → is_fluent_in task p ≡ true → is_fluent task.schemas p ≡ true
 fluent_to task p h =
     let (d, found, f) = fluent_definition task p h in
-    not_false (is_fluent task.schemas p) (sym (task.predicates_ok.static p d found) ∙ f)
+    not-false (is_fluent task.schemas p) (sym (task.predicates_ok.static p d found) ∙ f)
 
 named_within : (count p : ℕ) (atoms : List Lifted) → All (λ (a : Lifted). a.predicate < count) atoms
     → list_any (is_of_predicate p) atoms ≡ true → p < count

@@ -16,10 +16,11 @@ use Rattle.pl_task.specs.declared.task.Task.{Task}
 use Rattle.pl_task.specs.States.{State}
 use Rattle.pl_state.specs.Layout.{atom_of, AreTrueRows}
 use Rattle.pl_state.specs.StateOf.{is_fluent_in, is_fluent_one}
-use Rattle.pl_state.proofs.Orders.{ascending_nil, ascending_one, ascending_append}
+use Rattle.pl_state.proofs.Orders.{ascending_one, ascending_append}
 use Rattle.pl_registry.proofs.Lists.{Contains-nil, Contains-cons_cases, Contains-map, Contains-map_cases}
 use Rattle.pl_novel.specs.Keys.{IsKeyBelow, AreKeysBelow, AreNumbered, AreStateNumbers, Extends}
 use Rattle.pl_novel.proofs.Numberings.{numbered_none, numbered_trans, numbered_extends}
+use Rattle.pl_rows.proofs.Canonical.{ascending-none}
 
 -- the order of keys, by their predicates
 same_head : (p : ℕ) (x y : List ℕ) → row_cmp (p ∷ x) (p ∷ y) ≡ row_cmp x y
@@ -30,7 +31,7 @@ lower_head q p x y l = ap (λ o. ordering_then o (row_cmp x y)) (sym (nat_cmp_is
 
 -- the keys of ascending rows ascend
 keys_ascend : (p : ℕ) (rows : List (List ℕ)) → IsAscending rows → IsAscending (map (λ row. p ∷ row) rows)
-keys_ascend p [] s = ascending_nil
+keys_ascend p [] s = ascending-none
 keys_ascend p (x ∷ xs) s =
     ascending_append ((p ∷ x) ∷ []) (map (λ row. p ∷ row) xs) (ascending_one (p ∷ x))
     (keys_ascend p xs (sorted_tail row_cmp x xs s)) below
@@ -54,7 +55,7 @@ below_or_at q p l = grind arith
 module _ (task : Task) (s : State) where
   pub keys_none : AreKeysBelow task s 0 []
   keys_none = record {
-    ascending = ascending_nil;
+    ascending = ascending-none;
     atoms = All-nil (λ key. 0 < length key);
     members = λ q o. (λ h. absurd (Contains-nil (q ∷ o) h), λ h. absurd (let l = h.low in omega (arith, l)));
   }

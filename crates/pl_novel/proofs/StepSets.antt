@@ -33,10 +33,12 @@ use Rattle.pl_novel.proofs.Lists.{AreOnce, all_have, all_once, all_append, all_e
 use Rattle.pl_novel.proofs.Pairs.{first_below, never_below_itself, one_is_set, one_all, two_all, key_back}
 use Rattle.pl_novel.proofs.Pairings.{around_first, around_other}
 use Rattle.pl_novel.proofs.Numberings.{numbered_extends}
-use Rattle.pl_novel.proofs.NotedSets.{key_kept, longer, one_number}
+use Rattle.pl_novel.proofs.NotedSets.{key_kept, one_number}
+use Rattle.pl_novel.proofs.Numberings.{longer}
 use Rattle.pl_novel.proofs.StateSets.{has_key, one_in, two_in}
 use Rattle.pl_novel.proofs.Growing.{IsGrowth, sets_kept}
 use Rattle.pl_novel.proofs.Seeing.{fluent_back}
+use Rattle.std.proofs.lemmas.Bool.{or_right}
 
 Contains-flat_map : {X Y : Type 0} (f : X → List Y) (xs : List X) (x : X) (y : Y) → Contains xs x
     → Contains (f x) y → Contains (flat_map f xs) y
@@ -172,14 +174,6 @@ module _ (keys : List (List ℕ)) where
           less))
     ]
   ]
-
-or_left : (a b : Bool) → a ≡ true → (a || b) ≡ true
-or_left true b h = refl
-or_left false b h = absurd (false≢true h)
-
-or_right : (a b : Bool) → b ≡ true → (a || b) ≡ true
-or_right true b h = refl
-or_right false b h = h
 
 and_first : (a b : Bool) → (a && b) ≡ true → a ≡ true
 and_first true b h = refl

@@ -18,6 +18,8 @@ use Rattle.pl_normal.specs.Steps.{all_steps, applicable_steps}
 use Rattle.pl_registry.specs.StateSpace.{LeadsTo, space_of}
 use Rattle.pl_registry.proofs.Lists.{Contains-nil, Contains-cons_cases, Contains-from_filter}
 use Rattle.pl_registry.proofs.Running.{AreToldApart, IsReached}
+use Rattle.std.proofs.lemmas.Bool.{or_parts}
+use Rattle.std.proofs.Math.Bool.{and-true}
 
 -- the atoms that a step deletes or adds
 abbrev effects_by : List ℕ → Option Schema → List Atom
@@ -35,20 +37,12 @@ touched task = flat_map (effects_of task) (all_steps task)
 abbrev IsBut : List Atom → State → State → Type 0
 IsBut atoms first s = (a : Atom) → state_of atoms a ≡ false → s a ≡ first a
 
-false_parts : (a b : Bool) → (a || b) ≡ false → (a ≡ false) × (b ≡ false)
-false_parts true b h = absurd (false≢true (sym h))
-false_parts false b h = (refl, h)
-
-and_true : (b : Bool) → (b && true) ≡ b
-and_true true = refl
-and_true false = refl
-
 -- what no element of a joined list passes, none of its parts has
 any_of_part : (p : Atom → Bool) (f : Instance → List Atom) (xs : List Instance) (x : Instance) → Contains xs x
     → list_any p (flat_map f xs) ≡ false → list_any p (f x) ≡ false
 any_of_part p f [] x has none = absurd (Contains-nil x has)
 any_of_part p f (y ∷ xs) x has none =
-    let parts = false_parts (list_any p (f y)) (list_any p (flat_map f xs))
+    let parts = or_parts (list_any p (f y)) (list_any p (flat_map f xs))
     (sym (list_any-append p (f y) (flat_map f xs)) ∙ none) in
     elim (Contains-cons_cases y xs x has) [
       | inl e ↦ ap (λ z. list_any p (f z)) (sym e) ∙ parts.0
@@ -62,9 +56,9 @@ changed_but s args None a none = refl
 changed_but s args (Some schema) a none =
     let deletes = map (atom_at args) schema.delete in
     let adds = map (atom_at args) schema.add in
-    let parts = false_parts (state_of deletes a) (state_of adds a)
+    let parts = or_parts (state_of deletes a) (state_of adds a)
     (sym (list_any-append (is_same a) deletes adds) ∙ none) in
-    (λ i. parts.1 i || (s a && not (parts.0 i))) ∙ and_true (s a)
+    (λ i. parts.1 i || (s a && not (parts.0 i))) ∙ and-true (s a)
 
 applicable_is_listed : (task : Task) (s : State) (step : Instance) → Contains (applicable_steps task s) step
     → Contains (all_steps task) step

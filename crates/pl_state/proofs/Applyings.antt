@@ -6,7 +6,7 @@ use Rattle.std.proofs.Common.{eq-eqb}
 use Rattle.std.specs.List.{flat_map, list_any}
 use Rattle.std.specs.Str.{bytes_eq}
 use Rattle.std.proofs.Math.ListN.{set}
-use Rattle.std.proofs.lemmas.Bool.{cases_Bool, false≢true, true≢false}
+use Rattle.std.proofs.lemmas.Bool.{cases_Bool, true≢false}
 use Rattle.std.proofs.lemmas.List.{take_all, drop-drop, length-map, get_or-map, append-nil, set_at}
 use Rattle.std.proofs.lemmas.List.{take-append-drop, take-take, drop-take, take_at, drop_at, length-take-le}
 use Rattle.std.proofs.lemmas.List.Elements.{All-weaker, All-contains, All-get_or, All-map, Contains-get_or}
@@ -34,6 +34,9 @@ use Rattle.pl_state.proofs.StatesOfWords.{same_test, among_rows, fluent_from, st
 use Rattle.pl_state.proofs.PartWords.{length-flat}
 use Rattle.pl_state.proofs.Readings.{state_read, part_at, start_more, start_static, part_rows}
 use Rattle.pl_state.proofs.Buildings.{AreBuilt, built_none, built_static, built_more, built_all}
+use Rattle.std.proofs.lemmas.Bool.{or_parts}
+use Rattle.std.proofs.lemmas.Bool.{or_left, or_right}
+use Rattle.pl_state.proofs.Mergings.{kept_bits}
 
 -- effects of a predicate have rows
 pub effects_rows : (objects : ℕ) (args : List ℕ) (p k : ℕ) (effects : List Lifted) →
@@ -150,10 +153,6 @@ part_after objects args p k count deletes adds rows s old pushed merged new effe
             (and_first (list_any (bytes_eq row) rows) (not (is_named args p deletes row)) kept))
 
 -- a predicate that no effect is on
-or_false : (a b : Bool) → (a || b) ≡ false → (a ≡ false) × (b ≡ false)
-or_false true b h = absurd (true≢false h)
-or_false false b h = (refl, h)
-
 unnamed : (args : List ℕ) (p : ℕ) (effects : List Lifted) (row : List ℕ) →
     list_any (is_of_predicate p) effects ≡ false → is_named args p effects row ≡ false
 unnamed args p effects row none = by_case (cases_Bool (is_named args p effects row))
@@ -172,12 +171,6 @@ unnamed args p effects row none = by_case (cases_Bool (is_named args p effects r
           eq-eqb r.effect.predicate p r.of_predicate,
         )) ∙ none))
 
-kept_bits : (a r d : Bool) → a ≡ false → d ≡ false → (a || (r && not d)) ≡ r
-kept_bits true r d h k = absurd (true≢false h)
-kept_bits false true true h k = absurd (true≢false k)
-kept_bits false true false h k = refl
-kept_bits false false d h k = refl
-
 pub untouched : (objects : ℕ) (args : List ℕ) (p k : ℕ) (deletes adds : List Lifted) (rows : List (List ℕ))
     (s : State) →
     (list_any (is_of_predicate p) deletes || list_any (is_of_predicate p) adds) ≡ false →
@@ -193,7 +186,7 @@ untouched objects args p k deletes adds rows s none h = record {
     same : (row : List ℕ) →
         changed s (map (atom_at args) deletes) (map (atom_at args) adds) (atom_of p row) ≡ s (atom_of p row)
     same row =
-        let parts = or_false (list_any (is_of_predicate p) deletes) (list_any (is_of_predicate p) adds) none
+        let parts = or_parts (list_any (is_of_predicate p) deletes) (list_any (is_of_predicate p) adds) none
         in
         kept_bits (is_named args p adds row) (s (atom_of p row)) (is_named args p deletes row)
         (unnamed args p adds row parts.1) (unnamed args p deletes row parts.0)
@@ -446,14 +439,6 @@ fluent_effect task schema place p found within touched =
 
     by_definition : (d : PredicateDef) → slice_get task.predicates p ≡ Some d → is_fluent_in task p ≡ true
     by_definition d at = fluent_from task p d at (task.predicates_ok.static p d at ∙ ap not some)
-
-or_left : (a b : Bool) → a ≡ true → (a || b) ≡ true
-or_left true b h = refl
-or_left false b h = absurd (false≢true h)
-
-or_right : (a b : Bool) → b ≡ true → (a || b) ≡ true
-or_right true b h = refl
-or_right false b h = h
 
 -- a step changes no atom that isn't fluent
 pub others_stay : (task : Task) (old : List ℕ) (step : Instance) (schema : Schema) (a : Atom) →

@@ -20,5 +20,3 @@ pub mod Comparings
 pub mod StaticTables
 -- the goal with its static part decided
 pub mod Decidings
--- the task of the tests
-pub mod HopLemmas

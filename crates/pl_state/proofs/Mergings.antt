@@ -35,8 +35,10 @@ use Rattle.pl_state.proofs.StatesOfWords.{among_rows}
 use Rattle.pl_state.proofs.Packings.{flat-rows_of}
 use Rattle.pl_state.proofs.Namings.{row_wide, named_held}
 use Rattle.pl_state.proofs.Orders.{IsLower, lower_none, lower_up_to, below_from, below_to, up_to_itself}
-use Rattle.pl_state.proofs.Orders.{up_to_from_below, up_to_cases, up_to_trans, ascending_nil, ascending_one}
+use Rattle.pl_state.proofs.Orders.{up_to_from_below, up_to_cases, up_to_trans, ascending_one}
 use Rattle.pl_state.proofs.Orders.{ascending_append, ascending_between}
+use Rattle.std.proofs.lemmas.Bool.{or_parts}
+use Rattle.pl_rows.proofs.Canonical.{ascending-none}
 
 -- there is no row between a place and itself
 pub none_between : (rows : List (List ℕ)) (old : List ℕ) (from to : ℕ) → from ≡ to →
@@ -101,7 +103,7 @@ merged_none k rows after = record {
   within = omega arith;
   before = λ j l. absurd (omega arith);
   behind = λ j l h. refl;
-  ascending = ascending_nil;
+  ascending = ascending-none;
   wide = All-nil (λ row. length row ≡ k);
   held = λ row h. absurd (Contains-nil row h);
   all = λ row h t. absurd (false≢true h);
@@ -378,18 +380,14 @@ lower_done : (args : List ℕ) (k : ℕ) (last : Option (Bor Lifted)) → IfSome
 lower_done args k None h = lower_none k
 lower_done args k (Some last) h = lower_up_to k (row_under args last.now) (row_wide args k last.now h)
 
--- what effects don't name stays, and what they name is there just where it is added
-or_false : (a b : Bool) → (a || b) ≡ false → (a ≡ false) × (b ≡ false)
-or_false true b h = absurd (true≢false h)
-or_false false b h = (refl, h)
-
 named_parts : (args : List ℕ) (p : ℕ) (deletes adds : List Lifted) (row : List ℕ) →
     is_named args p (deletes ++ adds) row ≡ (is_named args p deletes row || is_named args p adds row)
 named_parts args p deletes adds row =
     ap (λ (l : List Atom). list_any (is_same (atom_of p row)) l) (map-append (atom_at args) deletes adds) ∙
     list_any-append (is_same (atom_of p row)) (map (atom_at args) deletes) (map (atom_at args) adds)
 
-kept_bits : (a r d : Bool) → a ≡ false → d ≡ false → (a || (r && not d)) ≡ r
+-- what effects don't name stays, and what they name is there just where it is added
+pub kept_bits : (a r d : Bool) → a ≡ false → d ≡ false → (a || (r && not d)) ≡ r
 kept_bits true r d h k = absurd (true≢false h)
 kept_bits false true true h k = absurd (true≢false k)
 kept_bits false true false h k = refl
@@ -399,7 +397,7 @@ after_unnamed : (args : List ℕ) (p : ℕ) (deletes adds : List Lifted) (rows :
     is_named args p (deletes ++ adds) row ≡ false →
     is_row_after args p deletes adds rows row ≡ list_any (bytes_eq row) rows
 after_unnamed args p deletes adds rows row h =
-    let parts = or_false (is_named args p deletes row) (is_named args p adds row)
+    let parts = or_parts (is_named args p deletes row) (is_named args p adds row)
     (sym (named_parts args p deletes adds row) ∙ h) in
     kept_bits (is_named args p adds row) (list_any (bytes_eq row) rows) (is_named args p deletes row) parts.1
     parts.0

@@ -16,6 +16,7 @@ use Rattle.std.proofs.lemmas.Slice.Eq.{bytes_eq-Decides}
 use Rattle.pl_rows.specs.Rows.{row_cmp, IsAscending}
 use Rattle.pl_rows.specs.Layout.{comes_before}
 use Rattle.pl_rows.proofs.Canonical.{Contains-cons_first, Contains-cons_rest}
+use Rattle.pl_rows.proofs.Canonical.{ascending-none}
 
 less_from : (o : Ordering) → is_lt o ≡ true → o ≡ Less
 less_from Less h = refl
@@ -137,15 +138,8 @@ sorted_cons : (x : List ℕ) (xs : List (List ℕ)) → All (λ y. row_cmp x y �
 unfolding IsStrictlySortedBy
 sorted_cons x xs all rest = (recursion_from_All (λ y. row_cmp x y ≡ Less) xs all, rest)
 
-sorted_nil : IsAscending []
-unfolding IsStrictlySortedBy
-sorted_nil = tt
-
-pub ascending_nil : IsAscending []
-ascending_nil = sorted_nil
-
 pub ascending_one : (x : List ℕ) → IsAscending (x ∷ [])
-ascending_one x = sorted_cons x [] (λ i d l. absurd (omega arith)) sorted_nil
+ascending_one x = sorted_cons x [] (λ i d l. absurd (omega arith)) ascending-none
 
 pub ascending_append : (xs ys : List (List ℕ)) → IsAscending xs → IsAscending ys →
     ((x y : List ℕ) → Contains xs x → Contains ys y → row_cmp x y ≡ Less) → IsAscending (xs ++ ys)

@@ -12,8 +12,9 @@ use Rattle.pl_task.specs.declared.task.Task.{Task}
 use Rattle.pl_state.specs.Layout.{part_of, parts_from, AreTrueRows}
 use Rattle.pl_state.specs.StateOf.{rows_in, is_fluent_in, arity_one, arity_in, state_in, IsStateOf}
 use Rattle.pl_state.specs.Reading.{start_of, IsPartAt}
-use Rattle.pl_state.proofs.PartWords.{parts_from-append, parts_from-agree, length-flat, rows_of-flat}
+use Rattle.pl_state.proofs.PartWords.{parts_from-append, parts_from-agree, length-flat}
 use Rattle.pl_state.proofs.StatesOfWords.{layout_rows, fluent_definition}
+use Rattle.pl_rows.proofs.Sorting.{rows_of-joined}
 
 -- a part between other words
 pub part_between : (words front rest : List ℕ) (rows : List (List ℕ)) (at k : ℕ) →
@@ -160,11 +161,6 @@ part_flat words at k rows within part =
     ∙
     take_at flat rest (k * length rows) (length-flat k rows part.wide)
 
-pub rows_of-flat_alone : (k : ℕ) (rows : List (List ℕ)) → All (λ row. length row ≡ k) rows →
-    rows_of k (length rows) (flat_map (λ row. row) rows) ≡ rows
-rows_of-flat_alone k rows wide =
-    ap (rows_of k (length rows)) (sym (append-nil (flat_map (λ row. row) rows))) ∙ rows_of-flat k rows [] wide
-
 pub part_rows : (words flat : List ℕ) (at k n m : ℕ) (rows : List (List ℕ)) → IsPartAt words at k rows →
     n ≡ get_or words at 0 → m ≡ k * n → flat ≡ take m (drop (at + 1) words) →
     rows_of k n flat ≡ rows
@@ -174,7 +170,7 @@ part_rows words flat at k n m rows part count size cut =
     let is : flat ≡ flat_map (λ row. row) rows =
     cut ∙ ap (λ x. take x (drop (at + 1) words)) (size ∙ ap (λ x. k * x) many) ∙
     part_flat words at k rows within part in
-    ap (λ x. rows_of k x flat) many ∙ ap (rows_of k (length rows)) is ∙ rows_of-flat_alone k rows part.wide
+    ap (λ x. rows_of k x flat) many ∙ ap (rows_of k (length rows)) is ∙ rows_of-joined k rows part.wide
 
 -- the definition that is read is that of the fluent predicate
 pub record IsFluentDef (task : Task) (p : ℕ) (d : PredicateDef) : Type 0 where

@@ -4,14 +4,10 @@ use Rattle.std.specs.Prelude.{◌≡◌, ◌↔◌, ℕ, suc, ◌<◌, ◌^◌, 
 use Rattle.std.specs.Prelude.{false, Some, slice_get, if◌then◌else◌}
 use Rattle.std.specs.List.{flat_map}
 use Rattle.pl_rows.specs.Rows.{AreRows}
-use Rattle.pl_task.specs.declared.data.Atom.{Atom}
 use Rattle.pl_task.specs.declared.data.PredicateDef.{PredicateDef}
 use Rattle.pl_task.specs.declared.task.Task.{Task}
 use Rattle.pl_task.specs.States.{State}
-
--- the atom of a predicate with these objects
-abbrev pub atom_of : ℕ → List ℕ → Atom
-atom_of predicate objects = record { predicate = predicate; objects = objects }
+pub use Rattle.pl_task.specs.Atoms.{atom_of}
 
 -- the number of rows, then the rows one after another
 abbrev pub part_of : List (List ℕ) → List ℕ

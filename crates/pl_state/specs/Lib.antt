@@ -10,5 +10,3 @@ pub mod Reading
 pub mod Changing
 pub mod Feeding
 pub mod Comparing
--- the task of the tests
-pub mod Hops

@@ -1,5 +1,6 @@
--- states, execution and the tests of types and steps: the crates above cite these lemmas
+-- states, execution, the tests of types and steps, and the size of a step: the crates above cite these lemmas
 pub mod StateLemmas
 pub mod TypeLemmas
+pub mod StepLemmas
 -- the walk that marks types
 mod MarkingLemmas

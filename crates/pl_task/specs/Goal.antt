@@ -21,18 +21,23 @@ is_goal task s = list_all (is_goal_met s) task.goal
 abbrev pub unmet : Task → State → ℕ
 unmet task s = count_by (λ g. not (is_goal_met s g)) task.goal
 
--- the atom has the effect's predicate, its constants at their places, and equal objects at places with one parameter
+-- the atom has the effect's predicate, its constants at their places, and equal objects at places with one
+-- parameter
 pub record CouldGive (effect : Lifted) (atom : Atom) : Type 0 where
   pub predicate : effect.predicate ≡ atom.predicate
   pub many : length effect.terms ≡ length atom.objects
-  pub constants : (i n : ℕ) → slice_get effect.terms i ≡ Some (term.Object n) → slice_get atom.objects i ≡ Some n
-  pub same : (i j n : ℕ) → slice_get effect.terms i ≡ Some (term.Parameter n) → slice_get effect.terms j ≡ Some (term.Parameter n) →
+  pub constants : (i n : ℕ) → slice_get effect.terms i ≡ Some (term.Object n) →
+      slice_get atom.objects i ≡ Some n
+  pub same : (i j n : ℕ) → slice_get effect.terms i ≡ Some (term.Parameter n) →
+      slice_get effect.terms j ≡ Some (term.Parameter n) →
       slice_get atom.objects i ≡ slice_get atom.objects j
 
--- the literal is not met, and no effect could change its atom: no add where it is wanted, no delete where it is unwanted
+-- the literal is not met, and no effect could change its atom: no add where it is wanted, no delete where it
+-- is unwanted
 pub record IsStuck (task : Task) (s : State) (g : GoalLiteral) : Type 0 where
   pub missed : IsTrue (not (is_goal_met s g))
-  pub none : All (λ (schema : Schema). All (λ effect. CouldGive effect g.atom → ⊥) (cond g.wanted schema.add schema.delete)) task.schemas
+  pub none : All (λ (schema : Schema). All (λ effect. CouldGive effect g.atom →
+      ⊥) (cond g.wanted schema.add schema.delete)) task.schemas
 
 -- some literal of the goal is stuck
 abbrev pub IsHopeless : Task → State → Type 0

@@ -17,16 +17,19 @@ StatesAreSets = (atoms : List Atom) (a : Atom) → IsTrue (state_of atoms a) ↔
 
 -- an atom that one step deletes and adds is true afterwards
 abbrev pub AddsComeLast : Type 0
-AddsComeLast = (s : State) (deletes adds : List Atom) (a : Atom) → Contains adds a → IsTrue (changed s deletes adds a)
+AddsComeLast = (s : State) (deletes adds : List Atom) (a : Atom) → Contains adds a →
+    IsTrue (changed s deletes adds a)
 
 -- the same steps lead from a state to one state
 abbrev pub ExecutionHasOneEnd : Task → Type 0
-ExecutionHasOneEnd task = (s x y : State) (steps : List Instance) → Executes task s steps x → Executes task s steps y → x ≡ y
+ExecutionHasOneEnd task = (s x y : State) (steps : List Instance) → Executes task s steps x →
+    Executes task s steps y → x ≡ y
 
 -- steps are executed in parts: the first ones lead to a state from which the rest is executed
 abbrev pub ExecutesInParts : Task → Type 0
 ExecutesInParts task = (s after : State) (first rest : List Instance) →
-    Executes task s (first ++ rest) after ↔ ((middle : State) × Executes task s first middle × Executes task middle rest after)
+    Executes task s (first ++ rest) after ↔
+    ((middle : State) × Executes task s first middle × Executes task middle rest after)
 
 -- the test of a type decides it
 abbrev pub TypesAreTested : Task → Type 0
@@ -34,7 +37,8 @@ TypesAreTested task = (o t : ℕ) → IsTrue (is_of_type task o t) ↔ HasType t
 
 -- the test of a step decides whether it is applicable
 abbrev pub StepsAreTested : Task → Type 0
-StepsAreTested task = (s : State) (step : Instance) → IsTrue (is_applicable task s step) ↔ IsApplicable task s step
+StepsAreTested task = (s : State) (step : Instance) → IsTrue (is_applicable task s step) ↔
+    IsApplicable task s step
 
 -- an applicable step is a step of the task
 abbrev pub ApplicableStepsAreSteps : Task → Type 0

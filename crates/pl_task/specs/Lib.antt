@@ -1,5 +1,6 @@
 -- what every claim of the planner rests on
 pub mod Types
+pub mod Atoms
 pub mod States
 pub mod Goal
 pub mod Plans

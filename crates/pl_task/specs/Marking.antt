@@ -1,5 +1,6 @@
 -- A queue of marked numbers.
-use Rattle.std.specs.Prelude.{◌≡◌, ℕ, ◌+◌, Bool, true, false, not, List, ◌++◌, ◌↔◌, length, All, Contains, count_by}
+use Rattle.std.specs.Prelude.{◌≡◌, ℕ, ◌+◌, Bool, true, false, not, List, ◌++◌, ◌↔◌, length, All, Contains}
+use Rattle.std.specs.Prelude.{count_by}
 use Rattle.std.proofs.Common.{get_or}
 
 -- the queue holds the marked numbers, and is as long as there are marks

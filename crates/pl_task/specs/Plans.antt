@@ -8,7 +8,8 @@ use Rattle.pl_task.specs.Goal.{is_goal}
 -- the steps are applicable in turn from s, and lead to `after`
 abbrev pub Executes : Task → State → List Instance → State → Type 0
 Executes task s [] after = s ≡ after
-Executes task s (step ∷ steps) after = IsApplicable task s step × Executes task (result_of task s step) steps after
+Executes task s (step ∷ steps) after = IsApplicable task s step ×
+    Executes task (result_of task s step) steps after
 
 -- the steps lead from the initial state to a goal state
 abbrev pub IsPlan : Task → List Instance → Type 0

@@ -1,5 +1,6 @@
 -- Ground atoms, states, steps, when a step is applicable, and what it leads to.
-use Rattle.std.specs.Prelude.{◌≡◌, ℕ, ◌<◌, ◌==◌, Bool, true, false, not, ◌||◌, ◌&&◌, IsTrue, List, [], ◌∷◌, map, length, Option, Some, None, slice_get, slice_index, All, Any, bytes_eq}
+use Rattle.std.specs.Prelude.{◌≡◌, ℕ, ◌<◌, ◌==◌, Bool, true, false, not, ◌||◌, ◌&&◌, IsTrue, List, [], ◌∷◌}
+use Rattle.std.specs.Prelude.{map, length, Option, Some, None, slice_get, slice_index, All, Any, bytes_eq}
 use Rattle.std.specs.List.{list_any, list_all}
 use Rattle.pl_task.specs.declared.data.Atom.{Atom}
 use Rattle.pl_task.specs.declared.data.Lifted.{Lifted}
@@ -83,11 +84,13 @@ abbrev pub are_typed : Task → List Parameter → List ℕ → Bool
 are_typed task [] [] = true
 are_typed task [] (o ∷ objects) = false
 are_typed task (p ∷ parameters) [] = false
-are_typed task (p ∷ parameters) (o ∷ objects) = list_any (is_of_type task o) p.types && are_typed task parameters objects
+are_typed task (p ∷ parameters) (o ∷ objects) = list_any (is_of_type task o) p.types &&
+    are_typed task parameters objects
 
 abbrev pub is_applicable_by : Task → State → List ℕ → Option Schema → Bool
 is_applicable_by task s args None = false
-is_applicable_by task s args (Some schema) = are_typed task schema.parameters args && list_all (is_met s args) schema.condition
+is_applicable_by task s args (Some schema) = are_typed task schema.parameters args && list_all
+    (is_met s args) schema.condition
 
 abbrev pub is_applicable : Task → State → Instance → Bool
 is_applicable task s step = is_applicable_by task s step.args (slice_get task.schemas step.schema)

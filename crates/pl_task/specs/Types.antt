@@ -1,5 +1,6 @@
 -- Types, and which objects have them.
-use Rattle.std.specs.Prelude.{◌≡◌, ℕ, Bool, false, ◌||◌, ◌&&◌, ◌==◌, List, [], ◌∷◌, ◌++◌, ◌⊎◌, Option, Some, None, length, slice_get, Contains, zero, suc}
+use Rattle.std.specs.Prelude.{◌≡◌, ℕ, Bool, false, ◌||◌, ◌&&◌, ◌==◌, List, [], ◌∷◌, ◌++◌, ◌⊎◌, Option, Some}
+use Rattle.std.specs.Prelude.{None, length, slice_get, Contains, zero, suc}
 use Rattle.std.specs.List.{list_any}
 use Rattle.pl_task.specs.declared.data.TypeDef.{TypeDef}
 use Rattle.pl_task.specs.declared.data.ObjectDef.{ObjectDef}
@@ -9,7 +10,8 @@ use Rattle.pl_task.specs.declared.task.Task.{Task}
 abbrev pub IsParent : List TypeDef → ℕ → ℕ → Type 0
 IsParent types a b = (d : TypeDef) × (slice_get types a ≡ Some d) × Contains d.parents b
 
--- the list that begins with a and goes on with the rest ends with t, and each member is a parent of the one before it
+-- the list that begins with a and goes on with the rest ends with t, and each member is a parent of the one
+-- before it
 abbrev pub IsChain : List TypeDef → ℕ → List ℕ → ℕ → Type 0
 IsChain types a [] t = a ≡ t
 IsChain types a (b ∷ rest) t = IsParent types a b × IsChain types b rest t
@@ -22,7 +24,8 @@ Leads types a t = (rest : List ℕ) × IsChain types a rest t
 abbrev pub IsReached : List TypeDef → List ℕ → ℕ → Type 0
 IsReached types starts t = (a : ℕ) × Contains starts a × Leads types a t
 
--- the object is one of the objects, and the type is `object`, which is type 0, or is reached from one of the object's types
+-- the object is one of the objects, and the type is `object`, which is type 0, or is reached from one of the
+-- object's types
 pub record HasType (task : Task) (object type_number : ℕ) : Type 0 where
   pub definition : ObjectDef
   pub found : slice_get task.objects object ≡ Some definition
@@ -40,7 +43,8 @@ is_parent types a b = list_any (λ p. p == b) (parents_of (slice_get types a))
 -- whether parents lead from a to b with all types between among the ones listed
 abbrev pub leads_through : List TypeDef → List ℕ → ℕ → ℕ → Bool
 leads_through types [] a b = (a == b) || is_parent types a b
-leads_through types (k ∷ ks) a b = leads_through types ks a b || (leads_through types ks a k && leads_through types ks k b)
+leads_through types (k ∷ ks) a b = leads_through types ks a b ||
+    (leads_through types ks a k && leads_through types ks k b)
 
 -- 0, 1, .., n - 1
 abbrev pub numbers_below : ℕ → List ℕ

@@ -1,4 +1,5 @@
-//! The parts of a task, as plain data. Types, objects, predicates and schemas are known by their numbers, from 0.
+//! The parts of a task, as plain data. Types, objects, predicates and schemas are known by their numbers,
+//! from 0.
 
 use crate::list::List;
 
@@ -42,7 +43,8 @@ pub struct Schema {
     pub condition: List<Literal>,
     /// The atoms that a step makes false, in reading order.
     pub delete: List<Lifted>,
-    /// The atoms that a step makes true, in reading order. An atom that one step deletes and adds is true afterwards.
+    /// The atoms that a step makes true, in reading order. An atom that one step deletes and adds is true
+    /// afterwards.
     pub add: List<Lifted>,
 }
 

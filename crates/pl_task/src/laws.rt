@@ -1,6 +1,9 @@
-//! Laws about the definitions of this crate. Each function does nothing and takes no memory; its contract is the law.
+//! Laws about the definitions of this crate. Each function does nothing and takes no memory; its contract is
+//! the law.
 
-ghost use Rattle.pl_task.specs.Laws.{AgreeingStatesAreOne, StatesAreSets, AddsComeLast, ExecutionHasOneEnd, ExecutesInParts, TypesAreTested, StepsAreTested, ApplicableStepsAreSteps};
+ghost use Rattle.pl_task.specs.Laws.{AgreeingStatesAreOne, StatesAreSets, AddsComeLast, ExecutionHasOneEnd};
+ghost use Rattle.pl_task.specs.Laws.{ExecutesInParts, TypesAreTested, StepsAreTested};
+ghost use Rattle.pl_task.specs.Laws.{ApplicableStepsAreSteps};
 
 use crate::task::Task;
 

@@ -1,7 +1,8 @@
 //! A list of items as a field of a type that contracts compare.
 
 ghost use Rattle.std.specs.Prelude.{◌≡◌};
-ghost use Rattle.std.specs.Cmp.Lexicographic.{pointwise, slice_cmp, slice_partial_cmp, lists_per, lists_equiv, lists_po, lists_total, lists_agrees, lists_ties};
+ghost use Rattle.std.specs.Cmp.Lexicographic.{pointwise, slice_cmp, slice_partial_cmp, lists_per};
+ghost use Rattle.std.specs.Cmp.Lexicographic.{lists_equiv, lists_po, lists_total, lists_agrees, lists_ties};
 ghost use Rattle.std.specs.Hash as fed;
 ghost use Rattle.std.specs.Hash.{items_Alike};
 
@@ -9,7 +10,8 @@ use std::cmp::Ordering;
 use std::hash::{Hash, Hasher};
 use std::marker::Model;
 
-/// A `Vec` that contracts see as the list of its items, so that two of them with equal items are one value there.
+/// A `Vec` that contracts see as the list of its items, so that two of them with equal items are one value
+/// there.
 ///
 /// It is made from a `Vec` and gives its items back as a slice; neither takes memory.
 #[derive(Debug, Drop)]

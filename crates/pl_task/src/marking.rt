@@ -1,4 +1,5 @@
-//! Which types are reached by chains of parents: a walk that marks each type once, so that circles do no harm.
+//! Which types are reached by chains of parents: a walk that marks each type once, so that circles do no
+//! harm.
 
 ghost use Rattle.std.specs.Prelude.{◌<◌, ◌↔◌, [], ◌∷◌, length, All, Contains, IfOk, IsTrue};
 ghost use Rattle.pl_task.specs.Types.{IsReached};

@@ -6,7 +6,8 @@ use crate::step::Step;
 /// Steps to be executed in turn.
 pub type Plan = List<Step>;
 
-/// What a line of a plan file names. The tests are made in the order of the variants, and the first that fails decides.
+/// What a line of a plan file names. The tests are made in the order of the variants, and the first that
+/// fails decides.
 #[derive(Debug, Drop)]
 pub enum PlanLine {
     /// A step of the task.

@@ -7,7 +7,8 @@ use smallvec::SmallVec;
 use std::alloc::{AllocError, Global};
 use std::marker::Model;
 
-/// A step of a task: an action schema with an object for each of its parameters. Up to eight objects take no memory.
+/// A step of a task: an action schema with an object for each of its parameters. Up to eight objects take no
+/// memory.
 ///
 /// Contracts see the schema's number and the list of the objects' numbers.
 #[derive(Debug, Drop)]
@@ -37,7 +38,10 @@ impl Step {
     /// An owned copy of a step. With at most eight arguments it takes no memory and always answers `Ok`.
     pub fn of(alloc: Global, step: StepRef<'_>) -> Result<Step, AllocError>
         requires { length step.args.now ≤ 64 }
-        ensures ok { IfOk result (λ s. s ≡ record { schema = step.entry.schema; args = step.entry.args.now }) }
+        ensures ok { IfOk result (λ s. s ≡ record {
+          schema = step.entry.schema;
+          args = step.entry.args.now;
+        }) }
         ensures short { length step.entry.args.now ≤ 8 → IsOk result }
     {
         let args = SmallVec::from_slice(alloc, step.args)?;

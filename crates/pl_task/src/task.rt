@@ -1,6 +1,7 @@
 //! The task.
 
-ghost use Rattle.pl_task.specs.WellFormed.{AreTypes, AreObjects, ArePredicates, AreSchemas, AreInitial, IsGoalOf};
+ghost use Rattle.pl_task.specs.WellFormed.{AreTypes, AreObjects, ArePredicates, AreSchemas, AreInitial};
+ghost use Rattle.pl_task.specs.WellFormed.{IsGoalOf};
 
 use crate::data::{Atom, GoalLiteral, ObjectDef, PredicateDef, Schema, TypeDef};
 use crate::list::List;
@@ -8,7 +9,8 @@ use crate::marking::is_reached;
 use crate::step::StepRef;
 use std::alloc::{AllocError, Global};
 
-/// A planning task. Numbers of types, objects, predicates and schemas are places in its lists, and all are in range.
+/// A planning task. Numbers of types, objects, predicates and schemas are places in its lists, and all are in
+/// range.
 #[derive(Debug, Drop)]
 pub struct Task {
     /// The types. Type 0 is `object`, which each object has.
@@ -36,7 +38,8 @@ impl Task {
     ghost use Rattle.pl_task.specs.Types.{HasType};
     ghost use Rattle.pl_task.specs.States.{IsStep};
 
-    /// Whether the object has the type: the type is `object`, or a chain of parents leads to it from a type of the object.
+    /// Whether the object has the type: the type is `object`, or a chain of parents leads to it from a type
+    /// of the object.
     ///
     /// Parents may run in a circle: the types that were seen are marked, in memory of its own.
     pub fn has_type(&self, alloc: Global, object: u32, type_number: u32) -> Result<bool, AllocError>
@@ -56,11 +59,15 @@ impl Task {
         )
     }
 
-    /// Whether the schema and the objects are of the task and the arguments are as many as the schema's parameters.
+    /// Whether the schema and the objects are of the task and the arguments are as many as the schema's
+    /// parameters.
     ///
     /// It says nothing of types: a step is one whether or not it is applicable.
     pub fn is_step(&self, step: StepRef<'_>) -> bool
-        ensures { IsTrue result ↔ IsStep self.now (record { schema = step.entry.schema; args = step.entry.args.now }) }
+        ensures { IsTrue result ↔ IsStep self.now (record {
+          schema = step.entry.schema;
+          args = step.entry.args.now;
+        }) }
     {
         let schemas = self.schemas.as_slice();
         if step.schema as usize >= schemas.len() {

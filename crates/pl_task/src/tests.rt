@@ -9,7 +9,8 @@ use std::alloc::{AllocError, Global};
 use std::collections::{BTreeSet, HashSet};
 use std::test::Fail;
 
-/// `[parents]` of types 0, 1, .. and `[types]` of objects 0, 1, .., without predicates, schemas, atoms and goal.
+/// `[parents]` of types 0, 1, .. and `[types]` of objects 0, 1, .., without predicates, schemas, atoms and
+/// goal.
 struct TypeCase {
     parents: &'static [&'static [u32]],
     objects: &'static [&'static [u32]],

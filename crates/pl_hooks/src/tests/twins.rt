@@ -4,8 +4,9 @@ ghost use Rattle.std.specs.Prelude.{◌≡◌, IfOk};
 ghost use Rattle.pl_task.specs.WellFormed.{IsAtomOf};
 ghost use Rattle.pl_hooks.specs.Twins.{bare, twice, marked, nobody, twin};
 
-use super::{AtomCase, atom, definition, is_atom, is_hopeless_cut, literal, objects, packed};
+use super::{is_hopeless_cut, packed};
 use crate::{HopelessTest, hopeless};
+use pl_samples::{AtomCase, atom, definition, is_atom, literal, objects};
 use pl_task::{GoalLiteral, Lifted, List, Parameter, Schema, Task, Term, TypeDef};
 use std::alloc::{AllocError, Global};
 use std::test::Fail;

@@ -1,5 +1,6 @@
 use Rattle.std.proofs.Common.{inl, inr}
-use Rattle.pl_hooks.proofs.Trials.{state_held, few_objects}
+use Rattle.pl_task.proofs.StepLemmas.{few_objects}
+use Rattle.pl_hooks.proofs.Trials.{state_held}
 use Rattle.pl_bfs.proofs.Sifted.{follows_seen}
 use Rattle.pl_bfs.proofs.SiftedTrials.{left_out, taken_in, turned_away}
 use Rattle.pl_bfs.proofs.new_trying.try_new.Goals as goal

@@ -1,5 +1,5 @@
 use Rattle.std.proofs.Common.{◌≡◌, [], ◌∷◌, ◌∙◌}
-use Rattle.pl_state.proofs.HopLemmas.{types_well}
+use Rattle.pl_samples.proofs.WellFormed.{types_well}
 use Rattle.pl_bfs.specs.Marks.{mark_definitions, makers}
 use Rattle.pl_bfs.proofs.MarkLemmas.{objects_well, predicates_well, schemas_well, init_well, goal_well}
 use Rattle.pl_bfs.proofs.width_tests.marks.Goals as goal

@@ -1,4 +1,5 @@
-use Rattle.pl_hooks.proofs.Trials.{state_held, sound_for, few_objects, taken_or_held}
+use Rattle.pl_task.proofs.StepLemmas.{few_objects}
+use Rattle.pl_hooks.proofs.Trials.{state_held, sound_for, taken_or_held}
 use Rattle.pl_hooks.proofs.trying.try_step.Goals as goal
 
 pub apply-requires-clause-state : goal.apply-requires-clause-state

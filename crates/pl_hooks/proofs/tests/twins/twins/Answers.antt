@@ -3,8 +3,8 @@ use Rattle.pl_task.specs.declared.data.Atom.{Atom}
 use Rattle.pl_task.specs.declared.data.PredicateDef.{PredicateDef}
 use Rattle.pl_task.specs.declared.data.Schema.{Schema}
 use Rattle.pl_task.specs.declared.data.TypeDef.{TypeDef}
-use Rattle.pl_state.specs.Layout.{atom_of}
-use Rattle.pl_state.proofs.HopLemmas.{objects_well}
+use Rattle.pl_task.specs.Atoms.{atom_of}
+use Rattle.pl_samples.proofs.WellFormed.{objects_well}
 use Rattle.pl_hooks.specs.Twins.{bare, pair_definition, link_definition, twin_definitions, twin}
 use Rattle.pl_hooks.proofs.TwinLemmas.{twin_types, twin_predicates, twin_schemas, twin_init, no_goal}
 use Rattle.pl_hooks.proofs.tests.twins.twins.Goals as goal

@@ -1,12 +1,13 @@
-use Rattle.std.proofs.Common.{◌≡◌, [], ◌∷◌, length, sym, ap, ◌∙◌, subst, arith}
+use Rattle.std.proofs.Common.{◌≡◌, [], ◌∷◌, length, ap, ◌∙◌, arith}
 use Rattle.pl_task.specs.declared.data.Atom.{Atom}
 use Rattle.pl_task.specs.declared.data.PredicateDef.{PredicateDef}
 use Rattle.pl_task.specs.declared.data.Schema.{Schema}
-use Rattle.pl_state.specs.Layout.{atom_of}
-use Rattle.pl_state.specs.Hops.{at_definition, link_definition, definitions, hop, finish, spread, IsHopGoal}
-use Rattle.pl_state.proofs.HopLemmas.{types_well, objects_well, predicates_well, schemas_well, init_well}
-use Rattle.pl_state.proofs.HopLemmas.{goal_well}
-use Rattle.pl_state.proofs.tests.places.Goals as goal
+use Rattle.pl_task.specs.Atoms.{atom_of}
+use Rattle.pl_samples.specs.Places.{at_definition, link_definition, definitions, hop, finish}
+use Rattle.pl_samples.specs.Places.{schemas_of_places}
+use Rattle.pl_samples.proofs.WellFormed.{types_well, objects_well, predicates_well, schemas_well, init_well}
+use Rattle.pl_samples.proofs.WellFormed.{goal_well}
+use Rattle.pl_samples.proofs.placing.places.Goals as goal
 
 pub invariant_of-result : goal.invariant_of-result
 invariant_of-result c =
@@ -19,7 +20,7 @@ invariant_of-result c =
     c.definition-at.ensures ∙
     ap (λ (x : PredicateDef). at_definition ∷ x ∷ c.definition-done.result ∷ []) c.definition-link.ensures ∙
     ap (λ (x : PredicateDef). at_definition ∷ link_definition ∷ x ∷ []) c.definition-done.ensures in
-    let schemas : c.of-6.result ≡ hop ∷ finish ∷ spread ∷ [] =
+    let schemas : c.of-6.result ≡ schemas_of_places =
     c.of-6.ensures ∙ c.in_ok-schemas.ensures.items ∙
     ap (λ (x : Schema). x ∷ c.in_ok-to_finish.field-0 ∷ c.in_ok-to_spread.field-0 ∷ []) c.in_ok-to_hop.ensures
     ∙
@@ -36,6 +37,6 @@ invariant_of-result c =
       schemas_ok = schemas_well c.of-3.result c.of-4.result c.of-5.result c.of-6.result
           (omega (arith, ap length types)) schemas predicates;
       init_ok = init_well c.of-4.result c.of-5.result c.of-7.result (omega arith) predicates init;
-      goal_ok = goal_well c.of-4.result c.of-5.result c.of-8.result (omega arith) predicates
-          (subst IsHopGoal (sym c.of-8.ensures) c.in_ok-goal.ensures);
+      goal_ok = goal_well c.of-4.result c.of-5.result c.of-8.result c.args.back (omega arith) predicates
+          (c.of-8.ensures ∙ c.in_ok-goal.ensures);
     }

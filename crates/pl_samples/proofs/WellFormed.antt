@@ -1,8 +1,9 @@
--- The task of the tests is well-formed.
-use Rattle.std.proofs.Common.{◌≡◌, ℕ, ◌<◌, ◌≤◌, ◌^◌, zero, suc, not, List, [], ◌∷◌, length, get_or, refl, sym}
-use Rattle.std.proofs.Common.{ap, ◌∙◌, subst, arith, Some, slice_get, All}
+-- Lists of a test task are well-formed: those of the task of places, and what other test tasks share with
+-- them.
+use Rattle.std.proofs.Common.{◌≡◌, ℕ, ◌<◌, ◌≤◌, ◌^◌, zero, suc, Bool, true, not, List, [], ◌∷◌, length, sym}
+use Rattle.std.proofs.Common.{ap, arith, Some, slice_get, All}
 use Rattle.std.proofs.lemmas.List.Elements.{All-nil, All-cons, All-same, All-weaker}
-use Rattle.std.proofs.lemmas.Option.{slice_get_read, same_Some}
+use Rattle.std.proofs.lemmas.Option.{same_Some}
 use Rattle.pl_task.specs.declared.data.Atom.{Atom}
 use Rattle.pl_task.specs.declared.data.GoalLiteral.{GoalLiteral}
 use Rattle.pl_task.specs.declared.data.Lifted.{Lifted}
@@ -13,17 +14,17 @@ use Rattle.pl_task.specs.declared.data.Schema.{Schema}
 use Rattle.pl_task.specs.declared.data.Term.{Term}
 use Rattle.pl_task.specs.declared.data.Term.TheVariants as term
 use Rattle.pl_task.specs.declared.data.TypeDef.{TypeDef}
-use Rattle.pl_task.specs.declared.task.Task.{Task}
 use Rattle.pl_task.specs.WellFormed.{AreTypes, AreObjects, ArePredicates, AreSchemas, AreInitial, IsGoalOf}
 use Rattle.pl_task.specs.WellFormed.{IsSchemaOf, IsLiteralOf, IsLiftedOf, IsTermOf, IsAtomOf, is_fluent}
-use Rattle.pl_state.specs.Layout.{atom_of}
-use Rattle.pl_state.specs.Hops.{at_place, done, at_definition, link_definition, done_definition, definitions}
-use Rattle.pl_state.specs.Hops.{place, hop, finish, spread, IsHopGoal}
+use Rattle.pl_task.specs.Atoms.{atom_of}
+use Rattle.pl_samples.specs.Places.{plain, at_place, done, at_definition, link_definition, done_definition}
+use Rattle.pl_samples.specs.Places.{definitions, place, hop, finish, spread, schemas_of_places, hop_goal}
+use Rattle.pl_samples.specs.Places.{literal_of}
 
-one : (X : Type 0) (P : X → Type 0) (x : X) → P x → All P (x ∷ [])
+pub one : (X : Type 0) (P : X → Type 0) (x : X) → P x → All P (x ∷ [])
 one X P x h = All-cons P x [] h (All-nil P)
 
-two : (X : Type 0) (P : X → Type 0) (x y : X) → P x → P y → All P (x ∷ y ∷ [])
+pub two : (X : Type 0) (P : X → Type 0) (x y : X) → P x → P y → All P (x ∷ y ∷ [])
 two X P x y h g = All-cons P x (y ∷ []) h (one X P y g)
 
 parameter_is : (objects parameters k : ℕ) → k < parameters → IsTermOf objects parameters (term.Parameter k)
@@ -101,23 +102,22 @@ types_well types t are none = record {
 }
 
 pub objects_well : (types : List TypeDef) (objects : List ObjectDef) → length objects < 2 ^ 32 →
-    All (λ (o : ObjectDef). o.types ≡ []) objects → AreObjects types objects
-objects_well types objects few plain = record {
+    All (λ (o : ObjectDef). o ≡ plain) objects → AreObjects types objects
+objects_well types objects few bare = record {
   many = few;
-  typed = All-weaker (λ (o : ObjectDef). o.types ≡ [])
-      (λ (o : ObjectDef). All (λ t. t < length types) o.types)
-      (λ o none. All-same (λ t. t < length types) o.types [] none (All-nil (λ t. t < length types))) objects
-      plain;
+  typed = All-weaker (λ (o : ObjectDef). o ≡ plain) (λ (o : ObjectDef). All (λ t. t < length types) o.types)
+      (λ o is. All-same (λ t. t < length types) o.types [] (ap (λ (x : ObjectDef). x.types) is)
+      (All-nil (λ t. t < length types))) objects bare;
 }
 
 static : (p : ℕ) (d : PredicateDef) → slice_get definitions p ≡ Some d →
-    d.is_static ≡ not (is_fluent (hop ∷ finish ∷ spread ∷ []) p)
+    d.is_static ≡ not (is_fluent schemas_of_places p)
 static zero d e = ap (λ (x : PredicateDef). x.is_static) (sym (same_Some at_definition d e))
 static (suc zero) d e = ap (λ (x : PredicateDef). x.is_static) (sym (same_Some link_definition d e))
 static (suc (suc zero)) d e = ap (λ (x : PredicateDef). x.is_static) (sym (same_Some done_definition d e))
 static (suc (suc (suc p))) d e = absurd (cc)
 
-predicates_literal : ArePredicates (hop ∷ finish ∷ spread ∷ []) definitions
+predicates_literal : ArePredicates schemas_of_places definitions
 predicates_literal = record {
   many = omega arith;
   narrow = All-cons (λ (d : PredicateDef). d.arity ≤ 64) at_definition
@@ -128,12 +128,12 @@ predicates_literal = record {
 }
 
 pub predicates_well : (schemas : List Schema) (predicates : List PredicateDef) →
-    schemas ≡ hop ∷ finish ∷ spread ∷ [] → predicates ≡ definitions → ArePredicates schemas predicates
+    schemas ≡ schemas_of_places → predicates ≡ definitions → ArePredicates schemas predicates
 predicates_well schemas predicates ss ps = rw (ss, ps) predicates_literal
 
 pub schemas_well : (types : List TypeDef) (objects : List ObjectDef) (predicates : List PredicateDef)
     (schemas : List Schema) → 0 < length types →
-    schemas ≡ hop ∷ finish ∷ spread ∷ [] → predicates ≡ definitions →
+    schemas ≡ schemas_of_places → predicates ≡ definitions →
     AreSchemas types objects predicates schemas
 schemas_well types objects predicates schemas some ss ps = record {
   many = omega (arith, ap length ss);
@@ -142,38 +142,6 @@ schemas_well types objects predicates schemas some ss ps = record {
       (two Schema (IsSchemaOf types objects definitions) finish spread (finish_is types objects some)
       (spread_is types objects some)));
 }
-
--- an atom that the code tests
-pub atom_well : (task : Task) (definitions' : List PredicateDef) (p : ℕ) (row : List ℕ) (d : PredicateDef) →
-    definitions' ≡ task.predicates → p < length definitions' → d ≡ get_or definitions' p d →
-    length row ≡ d.arity →
-    All (λ o. o < length task.objects) row → IsAtomOf task.objects task.predicates (atom_of p row)
-atom_well task definitions' p row d are within reads wide inside = record {
-  predicate = subst (λ (l : List PredicateDef). p < length l) are within;
-  arity = λ e found. wide ∙
-      ap (λ (x : PredicateDef). x.arity)
-      (same_Some d e (sym (subst (λ (l : List PredicateDef). slice_get l p ≡ Some d) are
-      (slice_get_read definitions' (length definitions') p d refl within reads)) ∙ found));
-  within = inside;
-}
-
--- the initial atoms and the goal
-pub init_well : (objects : List ObjectDef) (predicates : List PredicateDef) (init : List Atom) →
-    2 ≤ length objects → predicates ≡ definitions → init ≡ atom_of 1 (0 ∷ 1 ∷ []) ∷ [] →
-    AreInitial objects predicates init
-init_well objects predicates init some ps is = record {
-  each = rw (is, ps) (one Atom (IsAtomOf objects definitions) (atom_of 1 (0 ∷ 1 ∷ []))
-      (link_is objects 0 1 (omega arith) (omega arith)));
-  distinct = rw is (λ i j d l m. absurd (omega arith));
-}
-  where
-    link_is : (objects : List ObjectDef) (a b : ℕ) → a < length objects → b < length objects →
-        IsAtomOf objects definitions (atom_of 1 (a ∷ b ∷ []))
-    link_is objects a b h k = record {
-      predicate = omega arith;
-      arity = λ d e. ap (λ (x : PredicateDef). x.arity) (same_Some link_definition d e);
-      within = two ℕ (λ o. o < length objects) a b h k;
-    }
 
 at_atom : (objects : List ObjectDef) (n : ℕ) → n < length objects →
     IsAtomOf objects definitions (atom_of 0 (n ∷ []))
@@ -198,23 +166,33 @@ done_atom objects = record {
   within = All-nil (λ o. o < length objects);
 }
 
-pub goal_well : (objects : List ObjectDef) (predicates : List PredicateDef) (goal : List GoalLiteral) →
-    2 ≤ length objects → predicates ≡ definitions → IsHopGoal goal → IsGoalOf objects predicates goal
-goal_well objects predicates goal some ps h = record {
-  many = omega (arith, ap length h.are);
-  each = rw (h.are, ps) (
-      All-cons P h.once (h.twice ∷ h.all_done ∷ h.linked ∷ h.not_linked ∷ [])
-      (subst (IsAtomOf objects definitions) (sym h.once_is) (at_atom objects 1 (omega arith)))
-      (All-cons P h.twice (h.all_done ∷ h.linked ∷ h.not_linked ∷ [])
-      (subst (IsAtomOf objects definitions) (sym h.twice_is) (at_atom objects 1 (omega arith)))
-      (All-cons P h.all_done (h.linked ∷ h.not_linked ∷ [])
-      (subst (IsAtomOf objects definitions) (sym h.done_is) (done_atom objects))
-      (two GoalLiteral P h.linked h.not_linked
-      (subst (IsAtomOf objects definitions) (sym h.linked_is)
-      (link_atom objects 0 1 (omega arith) (omega arith)))
-      (subst (IsAtomOf objects definitions) (sym h.not_linked_is)
-      (link_atom objects 1 0 (omega arith) (omega arith)))))));
+pub init_well : (objects : List ObjectDef) (predicates : List PredicateDef) (init : List Atom) →
+    2 ≤ length objects → predicates ≡ definitions → init ≡ atom_of 1 (0 ∷ 1 ∷ []) ∷ [] →
+    AreInitial objects predicates init
+init_well objects predicates init some ps is = record {
+  each = rw (is, ps) (one Atom (IsAtomOf objects definitions) (atom_of 1 (0 ∷ 1 ∷ []))
+      (link_atom objects 0 1 (omega arith) (omega arith)));
+  distinct = rw is (λ i j d l m. absurd (omega arith));
+}
+
+pub goal_well : (objects : List ObjectDef) (predicates : List PredicateDef) (goal : List GoalLiteral)
+    (back : Bool) → 2 ≤ length objects → predicates ≡ definitions → goal ≡ hop_goal back →
+    IsGoalOf objects predicates goal
+goal_well objects predicates goal back some ps is = record {
+  many = omega (arith, ap length is);
+  each = rw (is, ps) (
+      All-cons P (literal_of 0 (1 ∷ []) true) (literal_of 0 (1 ∷ []) true ∷ literal_of 2 [] true ∷ links)
+      (at_atom objects 1 (omega arith))
+      (All-cons P (literal_of 0 (1 ∷ []) true) (literal_of 2 [] true ∷ links)
+      (at_atom objects 1 (omega arith))
+      (All-cons P (literal_of 2 [] true) links (done_atom objects)
+      (two GoalLiteral P (literal_of 1 (0 ∷ 1 ∷ []) true) (literal_of 1 (1 ∷ 0 ∷ []) back)
+      (link_atom objects 0 1 (omega arith) (omega arith))
+      (link_atom objects 1 0 (omega arith) (omega arith))))));
 }
   where
     P : GoalLiteral → Type 0
     P g = IsAtomOf objects definitions g.atom
+
+    links : List GoalLiteral
+    links = literal_of 1 (0 ∷ 1 ∷ []) true ∷ literal_of 1 (1 ∷ 0 ∷ []) back ∷ []

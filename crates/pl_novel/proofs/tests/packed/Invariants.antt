@@ -1,6 +1,0 @@
-use Rattle.std.proofs.Common.{All}
-use Rattle.pl_task.specs.WellFormed.{IsAtomOf}
-use Rattle.pl_novel.proofs.tests.packed.Given as goal
-
-abbrev pub invariant-loop-predicate : goal.invariant-loop-predicate
-invariant-loop-predicate l = All (IsAtomOf l.task.objects l.task.predicates) l.atoms.items

@@ -1,0 +1,2 @@
+-- test tasks are well-formed
+pub mod WellFormed

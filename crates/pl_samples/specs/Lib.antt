@@ -1,0 +1,2 @@
+-- the task of places, as contracts see it
+pub mod Places
