@@ -1,12 +1,11 @@
 -- Semijoins of relations without a row, and of relations that share no class.
-use Rattle.std.proofs.Common.{◌≡◌, ◌<◌, ◌⊎◌, ◌==◌, ◌↔◌, ℕ, suc, Bool, true, false, IsTrue, List, [], ◌∷◌}
-use Rattle.std.proofs.Common.{length, map, Contains, refl, sym, ap, ◌∙◌, subst, inl, inr, arith}
-use Rattle.std.specs.List.Sorted.{IsStrictlySortedBy}
+use Rattle.std.proofs.Common.{◌≡◌, ◌==◌, ◌↔◌, ℕ, Bool, true, false, IsTrue, List, [], ◌∷◌}
+use Rattle.std.proofs.Common.{length, Contains, refl, sym, ap, ◌∙◌, subst, arith}
 use Rattle.std.proofs.lemmas.Bool.{false≢true}
 use Rattle.std.proofs.lemmas.Bool.Decides.{Decides-eqb}
-use Rattle.pl_rows.specs.Rows.{Rows, IsAscending, row_cmp}
+use Rattle.pl_rows.specs.Rows.{Rows}
 use Rattle.pl_rows.proofs.Canonical.{Contains-nil, Contains-cons_first}
-use Rattle.pl_join.specs.Relation.{ClassRows, Assignment, IsRelation, Holds, IsSemijoinOf}
+use Rattle.pl_join.specs.Relation.{ClassRows, IsRelation, IsSemijoinOf}
 use Rattle.pl_join.specs.Source.{shared_with}
 use Rattle.pl_join.proofs.Assignments.{value_of, row_held, holds_none}
 use Rattle.pl_join.proofs.Operations.{Contains-shared}

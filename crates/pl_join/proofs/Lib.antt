@@ -7,6 +7,7 @@ pub mod Operations
 pub mod Gathering
 pub mod Joining
 pub mod Selecting
+mod Rising
 pub mod Repeats
 mod Founds
 mod Empties

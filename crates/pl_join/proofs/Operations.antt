@@ -1,5 +1,5 @@
 -- Which assignments a relation holds whose rows are picked or kept from those of another.
-use Rattle.std.proofs.Common.{◌≡◌, ◌≢◌, ◌↔◌, ◌==◌, ℕ, Bool, true, false, not, List, [], ◌∷◌, length, map}
+use Rattle.std.proofs.Common.{◌≡◌, ◌≢◌, ◌↔◌, ◌==◌, ℕ, Bool, true, not, List, length, map}
 use Rattle.std.proofs.Common.{filter, Contains, All, refl, sym, ap, ◌∙◌, subst, inl, inr, arith, Option, None}
 use Rattle.std.proofs.Common.{Some, IfNone}
 use Rattle.std.proofs.lemmas.Bool.{cases_Bool}
@@ -7,7 +7,7 @@ use Rattle.std.proofs.lemmas.Bool.Decides.{Decides-eqb, Decides-not}
 use Rattle.pl_rows.specs.Rows.{Rows, SameRows}
 use Rattle.pl_join.specs.declared.slot.Slot.{Slot}
 use Rattle.pl_join.specs.declared.source.Source.{Source}
-use Rattle.std.proofs.lemmas.List.Elements.{All-map, All-weaker, Contains-get_or}
+use Rattle.std.proofs.lemmas.List.Elements.{Contains-get_or}
 use Rattle.std.proofs.lemmas.Slice.Eq.{bytes_eq-Decides}
 use Rattle.pl_join.specs.declared.slot.Slot.TheVariants.{Class}
 use Rattle.pl_join.specs.Relation.{IsSelectionOf, IsSlotOver, IsJoinOf, IsSemijoinOf, AgreeOnShared}
@@ -166,20 +166,6 @@ selected_made rows result slots classes columns given_columns given_classes sour
     ek eg same er =
     rw er (selected rows slots classes columns sources made.rows picks (rw ec at looks) (rw (eg, ek) at same))
 
--- the classes as slots have the values of the classes
-pub slots_values : (classes : List ℕ) (f : Assignment)
-    → map (slot_value f) (map Class classes) ≡ map f classes
-slots_values [] f = refl
-slots_values (c ∷ classes) f = ap (λ values. f c ∷ values) (slots_values classes f)
-
-pub slots_held : (held classes : List ℕ) → All (Contains held) classes
-    → All (IsSlotOver held) (map Class classes)
-slots_held held classes all = All-map (IsSlotOver held) Class classes
-    (All-weaker (Contains held) (λ c. IsSlotOver held (Class c)) (λ c h k e. same_class c k h e) classes all)
-  where
-    same_class : (c k : ℕ) → Contains held c → Class c ≡ Class k → Contains held k
-    same_class c k h e = let same : c ≡ k = cc in subst (Contains held) same h
-
 -- the rows whose values are a row of another relation over some of the classes are the join with it
 pub restricted_to : (keep by : ClassRows) (rows : List (List ℕ)) (sources : List Source)
     → ((f : Assignment) → looked_at sources (map f keep.classes) ≡ map f by.classes)
@@ -195,26 +181,21 @@ restricted_to keep by rows sources values same f =
 
 -- the same of what the calls give, where a row is left out and where none is
 pub found_made : (classes wanted items : List ℕ) (rows keys : List (List ℕ)) (result : ClassRows)
-    (made : Rows) (slots given_slots : List Slot) (sources given : List Source) → slots ≡ map Class wanted
-    → given_slots ≡ slots
-    → ((f : Assignment) → looked_at sources (map f classes) ≡ map (slot_value f) given_slots)
+    (made : Rows) (sources given : List Source)
+    → ((f : Assignment) → looked_at sources (map f classes) ≡ map f wanted)
     → given ≡ sources → made.rows ≡ filter (is_kept Found keys given) rows → items ≡ classes
     → result ≡ record { classes = items; rows = made.rows }
     → IsJoinOf (of_rows classes rows) (of_rows wanted keys) result
-found_made classes wanted items rows keys result made slots given_slots sources given es egs values eg same ei
-    er =
-    rw (er, ei) (restricted_to (of_rows classes rows) (of_rows wanted keys) made.rows sources
-    (λ f. values f ∙ ap (map (slot_value f)) (egs ∙ es) ∙ slots_values wanted f)
+found_made classes wanted items rows keys result made sources given values eg same ei er =
+    rw (er, ei) (restricted_to (of_rows classes rows) (of_rows wanted keys) made.rows sources values
     (same_rows _ _ (rw eg at same)))
 
-pub found_whole : (classes wanted : List ℕ) (rows keys : List (List ℕ)) (slots given_slots : List Slot)
-    (sources given : List Source) → slots ≡ map Class wanted → given_slots ≡ slots
-    → ((f : Assignment) → looked_at sources (map f classes) ≡ map (slot_value f) given_slots)
+pub found_whole : (classes wanted : List ℕ) (rows keys : List (List ℕ)) (sources given : List Source)
+    → ((f : Assignment) → looked_at sources (map f classes) ≡ map f wanted)
     → given ≡ sources → filter (is_kept Found keys given) rows ≡ rows
     → IsJoinOf (of_rows classes rows) (of_rows wanted keys) (of_rows classes rows)
-found_whole classes wanted rows keys slots given_slots sources given es egs values eg same =
-    restricted_to (of_rows classes rows) (of_rows wanted keys) rows sources
-    (λ f. values f ∙ ap (map (slot_value f)) (egs ∙ es) ∙ slots_values wanted f)
+found_whole classes wanted rows keys sources given values eg same =
+    restricted_to (of_rows classes rows) (of_rows wanted keys) rows sources values
     (same_rows _ _ (sym same ∙ ap (λ s. filter (is_kept Found keys s) rows) eg))
 
 -- what is shared stands in both

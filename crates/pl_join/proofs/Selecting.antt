@@ -1,6 +1,6 @@
 -- The tests that decide which rows a selection keeps.
-use Rattle.std.proofs.Common.{◌≡◌, ◌+◌, ◌<◌, ◌&&◌, ◌≤◌, ℕ, zero, suc, Bool, true, List, [], ◌∷◌, ◌++◌, length}
-use Rattle.std.proofs.Common.{map, filter, take, get_or, All, refl, sym, ap, subst, ◌∙◌, slice_index, arith}
+use Rattle.std.proofs.Common.{◌≡◌, ◌+◌, ◌<◌, ◌&&◌, ◌≤◌, ℕ, Bool, true, List, [], ◌∷◌, ◌++◌, length}
+use Rattle.std.proofs.Common.{filter, take, get_or, All, refl, sym, ap, ◌∙◌, slice_index, arith}
 use Rattle.std.specs.Bool.{Decides}
 use Rattle.std.proofs.lemmas.Bool.Decides.{Decides-eqb, same_from_decides}
 use Rattle.std.proofs.lemmas.List.{length-map, length-take-le, map_more, take_all, take_more}
@@ -10,7 +10,7 @@ use Rattle.std.proofs.lemmas.Slice.Eq.{bytes_eq-Decides}
 use Rattle.pl_join.specs.declared.source.Source.{Source}
 use Rattle.pl_join.specs.declared.source.Source.TheVariants.{Column}
 use Rattle.pl_join.specs.declared.selection.Test.{Test}
-use Rattle.pl_join.specs.Source.{AreAll, value_at, picked, looked_at, fits_slots, passes, passes_all}
+use Rattle.pl_join.specs.Source.{value_at, picked, looked_at, fits_slots, passes, passes_all}
 use Rattle.pl_join.proofs.Joining.{same_parts}
 use Rattle.pl_join.proofs.Loops.{fits_more}
 
@@ -112,32 +112,3 @@ filter_agree p q (row ∷ rows) same =
     let rest : filter p rows ≡ filter q rows = filter_agree p q rows
     (All-tail (λ r. p r ≡ q r) row rows same) in
     rw (first, rest) refl
-
--- without a test and with all columns, each row is kept as it is
-pub all_kept : (F : List ℕ → List ℕ) (p : List ℕ → Bool) (rows : List (List ℕ))
-    → All (λ row. F row ≡ row) rows → All (λ row. p row ≡ true) rows → map F (filter p rows) ≡ rows
-all_kept F p [] same kept = refl
-all_kept F p (row ∷ rows) same kept =
-    let first : p row ≡ true = All-head (λ r. p r ≡ true) row rows kept in
-    let here : F row ≡ row = All-head (λ r. F r ≡ r) row rows same in
-    let rest : map F (filter p rows) ≡ rows = all_kept F p rows (All-tail (λ r. F r ≡ r) row rows same)
-    (All-tail (λ r. p r ≡ true) row rows kept) in
-    rw (first, here, rest) refl
-
--- all columns in their order have the row
-pub picked_all : (columns row : List ℕ) → AreAll columns (length row) → picked columns row ≡ row
-picked_all columns row (len, places) =
-    sym (ap (λ front. picked front row) (take_all (length row) columns (omega arith)))
-    ∙ front (length row) (omega arith) ∙ take_all (length row) row (omega arith)
-  where
-    front : (n : ℕ) → n ≤ length row → picked (take n columns) row ≡ take n row
-    front zero l = refl
-    front (suc n) l =
-        let next : n + 1 ≡ suc n = omega arith in
-        let here : get_or row (get_or columns n 0) 0 ≡ get_or row n 0 =
-        ap (λ k. get_or row k 0) (places n (omega arith)) in
-        let step : picked (take (n + 1) columns) row ≡ take (n + 1) row =
-        map_more (slice_index row) columns n 0 (omega arith)
-        ∙ ap (λ values. values ++ get_or row (get_or columns n 0) 0 ∷ []) (front n (omega arith))
-        ∙ ap (λ value. take n row ++ value ∷ []) here ∙ sym (take_more row n 0 (omega arith)) in
-        subst (λ k. picked (take k columns) row ≡ take k row) next step

@@ -51,10 +51,10 @@ is_kept keep rows sources row = keeps_where keep (has_row rows (looked_at source
 abbrev pub fits_slots : List Source → List ℕ → List ℕ → Bool
 fits_slots sources columns row = bytes_eq row (looked_at sources (picked columns row))
 
--- these are all columns of rows of a width, in their order
-abbrev pub AreAll : List ℕ → ℕ → Type 0
-AreAll columns arity = (length columns ≡ arity)
-    × ((column : ℕ) → column < arity → slice_index columns column ≡ column)
+-- the slots are just these classes, and they rise
+pub record AreRisingClasses (slots : List Slot) (classes : List ℕ) : Type 0 where
+  pub slots_are : slots ≡ map Class classes
+  pub rising : AllPairs (λ a b. a < b) classes
 
 -- whether the row has a test's value in its column
 abbrev pub passes : List ℕ → Test → Bool

@@ -10,8 +10,9 @@ ghost use Rattle.pl_join.specs.Source.{IsWithin, differ, keeps_where, is_kept};
 
 use crate::lookup::{Lookup, is_there};
 use crate::relation::Relation;
+use crate::short_list::ShortList;
 use crate::slot::Slot;
-use crate::source::{Source, append, look_at, source_of, sources_of, value_in};
+use crate::source::{Source, append, look_at, room_for, source_of, sources_of, value_in, zeros};
 use pl_rows::{Table, TableBuilder};
 use pl_steps::Steps;
 use std::alloc::{AllocError, Global};
@@ -47,7 +48,7 @@ pub fn filter_unequal<L: Ledger>(
     let first = source_of(classes, a);
     let second = source_of(classes, b);
     let table = unequal_rows(alloc, relation.table(), first, second, steps)?;
-    Ok(Relation::new(Vec::from_slice(alloc, classes)?, table))
+    Ok(Relation::new(ShortList::from_slice(alloc, classes)?, table))
 }
 
 /// The rows for which the row of the slots is not in the table, over the relation's classes in their order.
@@ -73,11 +74,11 @@ pub fn filter_absent<L: Ledger>(
         alloc,
         relation.table(),
         Lookup::Rows(table),
-        &sources,
+        sources.as_slice(),
         Keep::Missing,
         steps,
     )?;
-    Ok(Relation::new(Vec::from_slice(alloc, classes)?, kept))
+    Ok(Relation::new(ShortList::from_slice(alloc, classes)?, kept))
 }
 
 /// The rows in which the two sources differ.
@@ -96,9 +97,10 @@ fn unequal_rows<L: Ledger>(
     ensures cost { steps.new ≤ steps.old + length table.now.rows }
     ensures rise { steps.old ≤ steps.new }
 {
-    let mut flat = Vec::new(alloc);
+    let len = table.len();
+    let mut flat = room_for(alloc, len, table.arity() as usize)?;
     let mut count = 0;
-    for i in 0..table.len() {
+    for i in 0..len {
         let row = table.row(i, steps);
         if value_in(row, a) != value_in(row, b) {
             append(&mut flat, row)?;
@@ -155,7 +157,7 @@ pub fn fewer_rows<L: Ledger>(
     ensures cost { steps.new ≤ steps.old + 2 * length table.now.rows }
     ensures rise { steps.old ≤ steps.new }
 {
-    let mut values = vec![in alloc; 0; sources.len()]?;
+    let mut values = zeros(alloc, sources.len())?;
     let values = values.as_mut_slice();
     let mut near = 0;
     let first = first_left_out(table, other, sources, keep, values, &mut near, steps);

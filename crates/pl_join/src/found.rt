@@ -52,8 +52,9 @@ fn ranges_found<L: Ledger>(
     ensures cost { steps.new ≤ steps.old + 2 * length keys.now.rows }
     ensures rise { steps.old ≤ steps.new }
 {
-    let mut ranges = Vec::new(alloc);
-    for i in 0..keys.len() {
+    let len = keys.len();
+    let mut ranges = Vec::with_capacity(alloc, len)?;
+    for i in 0..len {
         let key = keys.row(i, steps);
         ranges.push(indexed.find(key, steps))?;
     }

@@ -10,7 +10,8 @@ ghost use Rattle.pl_join.specs.Source.{glued, joined_with};
 use crate::projection::project;
 use crate::relation::Relation;
 use crate::semijoins::{other_classes, restricted, shared_classes};
-use crate::source::{append, columns_of, pick};
+use crate::short_list::ShortList;
+use crate::source::{append, columns_of, pick, zeros};
 use pl_rows::{Indexed, Range, Table};
 use pl_steps::Steps;
 use std::alloc::{AllocError, Global};
@@ -27,7 +28,8 @@ pub fn hash_join<L: Ledger>(
     right: &Relation,
     steps: &mut Steps<L>,
 ) -> Result<Relation, AllocError>
-    ensures classes { IfOk result (λ r. r.classes ≡ left.now.classes ++ without right.now.classes left.now.classes) }
+    ensures classes { IfOk result (λ r. r.classes ≡ left.now.classes ++
+        without right.now.classes left.now.classes) }
     ensures rows { IfOk result (IsJoinOf left.now right.now) }
     ensures rise { steps.old ≤ steps.new }
 {
@@ -42,7 +44,7 @@ pub fn hash_join<L: Ledger>(
     let shared = shared.as_slice();
     let columns = columns_of(alloc, classes, shared)?;
     let index = indexed(alloc, right, shared, rest, steps)?;
-    let table = joined_rows(alloc, left.table(), &index, &columns, steps)?;
+    let table = joined_rows(alloc, left.table(), &index, columns.as_slice(), steps)?;
     Ok(Relation::new(appended(alloc, classes, rest)?, table))
 }
 
@@ -64,16 +66,20 @@ fn indexed<L: Ledger>(
     ensures rise { steps.old ≤ steps.new }
 {
     let order = appended(alloc, shared, rest)?;
-    let arranged = project(alloc, relation, &order, steps)?;
+    let arranged = project(alloc, relation, order.as_slice(), steps)?;
     let _ = arranged.classes();
     Indexed::build(alloc, arranged.into_table(), shared.len() as u32, steps)
 }
 
 /// The one list, and behind it the other.
-pub fn appended(alloc: Global, classes: &[u32], others: &[u32]) -> Result<Vec<u32>, AllocError>
+pub fn appended(
+    alloc: Global,
+    classes: &[u32],
+    others: &[u32],
+) -> Result<ShortList<u32>, AllocError>
     ensures { IfOk result (λ all. all.items ≡ classes.now ++ others.now) }
 {
-    let mut all = Vec::from_slice(alloc, classes)?;
+    let mut all = ShortList::from_slice(alloc, classes)?;
     all.extend_from_slice(others)?;
     Ok(all)
 }
@@ -101,7 +107,7 @@ fn joined_rows<L: Ledger>(
     let table = index.table();
     let arity = left.arity() + (table.arity() - index.width());
     let mut flat = Vec::new(alloc);
-    let mut key = vec![in alloc; 0; columns.len()]?;
+    let mut key = zeros(alloc, columns.len())?;
     let key = key.as_mut_slice();
     for i in 0..left.len() {
         let row = left.row(i, steps);

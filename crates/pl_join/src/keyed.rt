@@ -13,6 +13,7 @@ use crate::lookup::Lookup;
 use crate::projection::project;
 use crate::relation::Relation;
 use crate::semijoins::{has, looked_up, other_classes};
+use crate::short_list::ShortList;
 use pl_rows::{Indexed, Table};
 use pl_steps::Steps;
 use std::alloc::{AllocError, Global};
@@ -24,7 +25,7 @@ use std::sync::ledger::Ledger;
 /// A semijoin with it takes one look-up for each row of the other relation, and does not go through its rows.
 #[derive(Drop)]
 pub struct Keyed {
-    classes: Vec<u32>,
+    classes: ShortList<u32>,
     indexed: Indexed,
 }
 
@@ -55,9 +56,21 @@ impl Keyed {
         ensures cost { steps.new ≤ steps.old + length relation.rows }
         ensures rise { steps.old ≤ steps.new }
     {
-        let classes = Vec::from_slice(alloc, relation.classes())?;
+        let classes = ShortList::from_slice(alloc, relation.classes())?;
         let indexed = Indexed::build(alloc, relation.into_table(), width, steps)?;
         Ok(Keyed { classes, indexed })
+    }
+
+    /// The keyed relation, made ready for many look-ups. To make it so takes far longer than a look-up, so it
+    /// is worth that only for a relation that stays. It takes no probe. The only error is want of memory.
+    pub fn lasting(self, alloc: Global) -> Result<Keyed, AllocError>
+        ensures { IfOk result (λ k. k ≡ self) }
+    {
+        let indexed = self.indexed.lasting(alloc)?;
+        Ok(Keyed {
+            classes: self.classes,
+            indexed,
+        })
     }
 
     /// The relation with the classes of the key in front and the others behind them in their order, looked up
@@ -81,8 +94,8 @@ impl Keyed {
         ensures rise { steps.old ≤ steps.new }
     {
         let rest = other_classes(alloc, relation.classes(), key)?;
-        let order = appended(alloc, key, &rest)?;
-        let arranged = project(alloc, relation, &order, steps)?;
+        let order = appended(alloc, key, rest.as_slice())?;
+        let arranged = project(alloc, relation, order.as_slice(), steps)?;
         Keyed::of(alloc, arranged, key.len() as u32, steps)
     }
 
@@ -92,7 +105,7 @@ impl Keyed {
         ensures relation { IsRelation self.now.relation }
         ensures width { self.now.width ≤ length self.now.relation.classes }
     {
-        &self.classes
+        self.classes.as_slice()
     }
 
     /// The classes of the key.
@@ -101,7 +114,7 @@ impl Keyed {
         ensures width { length result.now ≡ self.now.width }
         ensures relation { IsRelation self.now.relation }
     {
-        &self.classes[..self.indexed.width() as usize]
+        &self.classes.as_slice()[..self.indexed.width() as usize]
     }
 
     /// Whether the key has just those of the classes that are among the others, as the semijoins with a
@@ -119,7 +132,7 @@ impl Keyed {
     fn rest(&self) -> &[u32]
         ensures { result.now ≡ rest_of self.now }
     {
-        &self.classes[self.indexed.width() as usize..]
+        &self.classes.as_slice()[self.indexed.width() as usize..]
     }
 
     /// The rows: one value for each class, in the order of the classes.
@@ -134,7 +147,7 @@ impl Keyed {
     pub fn copied(&self, alloc: Global) -> Result<Relation, AllocError>
         ensures { IfOk result (λ r. r ≡ self.now.relation) }
     {
-        let classes = Vec::from_slice(alloc, &self.classes)?;
+        let classes = ShortList::from_slice(alloc, self.classes.as_slice())?;
         let table = self.indexed.table().copied(alloc)?;
         Ok(Relation::new(classes, table))
     }
@@ -144,7 +157,7 @@ impl Keyed {
     pub fn emptied(&self, alloc: Global) -> Result<Relation, AllocError>
         ensures { IfOk result (λ r. r ≡ record { classes = self.now.relation.classes; rows = [] }) }
     {
-        let classes = Vec::from_slice(alloc, &self.classes)?;
+        let classes = ShortList::from_slice(alloc, self.classes.as_slice())?;
         let arity = self.indexed.table().arity();
         let table = Table::from_ascending(arity, 0, Vec::new(alloc));
         Ok(Relation::new(classes, table))
@@ -245,7 +258,7 @@ fn key_reduced<L: Ledger>(
         return looked_up(alloc, keep.classes(), table, key, other, steps);
     }
     match rows_found(alloc, keep.indexed(), keys.table(), steps)? {
-        Some(kept) => Ok(Some(Relation::new(Vec::from_slice(alloc, keep.classes())?, kept))),
+        Some(kept) => Ok(Some(Relation::new(ShortList::from_slice(alloc, keep.classes())?, kept))),
         None => Ok(None),
     }
 }

@@ -15,6 +15,7 @@ mod projection;
 mod relation;
 mod selection;
 mod semijoins;
+mod short_list;
 mod slot;
 mod source;
 #[cfg(test)]

@@ -7,7 +7,8 @@ ghost use Rattle.pl_join.specs.Relation.{AreDistinct, IsProjectionOf};
 ghost use Rattle.pl_join.specs.Source.{picked};
 
 use crate::relation::Relation;
-use crate::source::{append, columns_of, pick};
+use crate::short_list::ShortList;
+use crate::source::{append_picked, columns_of, room_for};
 use pl_rows::Table;
 use pl_steps::Steps;
 use std::alloc::{AllocError, Global};
@@ -37,8 +38,8 @@ pub fn project<L: Ledger>(
         return relation.copied(alloc);
     }
     let columns = columns_of(alloc, held, classes)?;
-    let table = picked_rows(alloc, relation.table(), &columns, steps)?;
-    Ok(Relation::new(Vec::from_slice(alloc, classes)?, table))
+    let table = picked_rows(alloc, relation.table(), columns.as_slice(), steps)?;
+    Ok(Relation::new(ShortList::from_slice(alloc, classes)?, table))
 }
 
 /// The rows of some columns, each once.
@@ -57,39 +58,62 @@ pub fn picked_rows<L: Ledger>(
     ensures cost { steps.new ≤ steps.old + length table.now.rows }
     ensures rise { steps.old ≤ steps.new }
 {
-    let mut flat = Vec::new(alloc);
+    let len = table.len();
+    let mut flat = room_for(alloc, len, columns.len())?;
     let mut count = 0;
-    let mut values = vec![in alloc; 0; columns.len()]?;
-    let values = values.as_mut_slice();
-    for i in 0..table.len() {
-        pick(values, table.row(i, steps), columns);
-        count = append_new(&mut flat, count, values)?;
+    for i in 0..len {
+        let row = table.row(i, steps);
+        count = append_new(&mut flat, count, row, columns)?;
     }
     Table::from_rows(alloc, columns.len() as u32, count, flat)
 }
 
-/// Appends the row to `count` rows of its width, unless it is the last of them: how many rows there are then.
+/// Appends the row's values in the columns to `count` such rows, unless they are the last of these: how many
+/// rows there are then.
 #[inline]
-fn append_new(flat: &mut Vec<u32>, count: usize, row: &[u32]) -> Result<usize, AllocError>
-    requires whole { length flat.old.items ≡ length row.now * count }
+fn append_new(
+    flat: &mut Vec<u32>,
+    count: usize,
+    row: &[u32],
+    columns: &[usize],
+) -> Result<usize, AllocError>
+    requires within { All (λ column. column < length row.now) columns.now }
+    requires whole { length flat.old.items ≡ length columns.now * count }
     requires few { count < usize.MAX }
-    ensures whole { IfOk result (λ n. length flat.new.items ≡ length row.now * n) }
+    ensures whole { IfOk result (λ n. length flat.new.items ≡ length columns.now * n) }
     ensures most { IfOk result (λ n. n ≤ count + 1) }
-    ensures rows { IfOk result (λ n. SameRows (rows_of (length row.now) n flat.new.items)
-        (rows_of (length row.now) count flat.old.items ++ row.now ∷ [])) }
+    ensures rows { IfOk result (λ n. SameRows (rows_of (length columns.now) n flat.new.items)
+        (rows_of (length columns.now) count flat.old.items ++ picked columns.now row.now ∷ [])) }
 {
-    if 0 < count && ends_with(flat, row) {
+    if 0 < count && ends_with(flat, row, columns) {
         return Ok(count);
     }
-    append(flat, row)?;
+    append_picked(flat, row, columns)?;
     Ok(count + 1)
 }
 
-/// Whether the last values are these.
+/// Whether the last values are those of the row in the columns.
 #[inline]
-fn ends_with(flat: &[u32], row: &[u32]) -> bool
-    requires { length row.now ≤ length flat.now }
-    ensures { IsTrue result ↔ (drop (length flat.now - length row.now) flat.now ≡ row.now) }
+fn ends_with(flat: &[u32], row: &[u32], columns: &[usize]) -> bool
+    requires long { length columns.now ≤ length flat.now }
+    requires within { All (λ column. column < length row.now) columns.now }
+    ensures { IsTrue result
+        ↔ (drop (length flat.now - length columns.now) flat.now ≡ picked columns.now row.now) }
 {
-    &flat[flat.len() - row.len()..] == row
+    are_picked(&flat[flat.len() - columns.len()..], row, columns)
+}
+
+/// Whether the values are those of the row in the columns.
+#[inline]
+fn are_picked(values: &[u32], row: &[u32], columns: &[usize]) -> bool
+    requires len { length values.now ≡ length columns.now }
+    requires within { All (λ column. column < length row.now) columns.now }
+    ensures { IsTrue result ↔ (values.now ≡ picked columns.now row.now) }
+{
+    for (i, column) in columns.iter().enumerate() {
+        if values[i] != row[*column] {
+            return false;
+        }
+    }
+    true
 }

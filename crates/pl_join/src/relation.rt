@@ -4,6 +4,7 @@ ghost use Rattle.std.specs.Prelude.{◌≡◌, ◌<◌, [], length, All, IfOk};
 ghost use Rattle.pl_rows.specs.Rows.{AreRows};
 ghost use Rattle.pl_join.specs.Relation.{AreDistinct, IsRelation};
 
+use crate::short_list::ShortList;
 use pl_rows::Table;
 use std::alloc::{AllocError, Global};
 use std::marker::Model;
@@ -15,7 +16,7 @@ use std::marker::Model;
 /// (`laws::one_relation_for_a_set`).
 #[derive(Drop)]
 pub struct Relation {
-    classes: Vec<u32>,
+    classes: ShortList<u32>,
     table: Table,
 }
 
@@ -33,7 +34,7 @@ impl Model for Relation {
 
 impl Relation {
     /// The relation of these classes and rows.
-    pub(crate) fn new(classes: Vec<u32>, table: Table) -> Relation
+    pub(crate) fn new(classes: ShortList<u32>, table: Table) -> Relation
         requires arity { table.arity ≡ length classes.items }
         requires distinct { AreDistinct classes.items }
         requires below { All (λ c. c < 64) classes.items }
@@ -48,7 +49,7 @@ impl Relation {
         ensures classes { result.now ≡ self.now.classes }
         ensures relation { IsRelation self.now }
     {
-        &self.classes
+        self.classes.as_slice()
     }
 
     /// The rows: one value for each class, in the order of the classes.
@@ -62,7 +63,7 @@ impl Relation {
     pub fn copied(&self, alloc: Global) -> Result<Relation, AllocError>
         ensures { IfOk result (λ r. r ≡ self.now) }
     {
-        let classes = Vec::from_slice(alloc, &self.classes)?;
+        let classes = ShortList::from_slice(alloc, self.classes.as_slice())?;
         let table = self.table.copied(alloc)?;
         Ok(Relation { classes, table })
     }
@@ -72,7 +73,7 @@ impl Relation {
     pub fn emptied(&self, alloc: Global) -> Result<Relation, AllocError>
         ensures { IfOk result (λ r. r ≡ record { classes = self.now.classes; rows = [] }) }
     {
-        let classes = Vec::from_slice(alloc, &self.classes)?;
+        let classes = ShortList::from_slice(alloc, self.classes.as_slice())?;
         let table = Table::from_ascending(self.table.arity(), 0, Vec::new(alloc));
         Ok(Relation { classes, table })
     }

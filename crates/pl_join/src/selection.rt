@@ -5,19 +5,17 @@ ghost use Rattle.std.specs.Prelude.{slice_get, All, Some, IsTrue, Contains, IfOk
 ghost use Rattle.std.specs.Prelude.{IfNone};
 ghost use Rattle.pl_rows.specs.Rows.{AreRows, SameRows};
 ghost use Rattle.pl_join.specs.Relation.{AreClassesOf, IsSelectionOf, IsSlotBelow};
-ghost use Rattle.pl_join.specs.Source.{AreAll, ArePlacesOf, IsGathered, IsTestOf, IsWithin};
+ghost use Rattle.pl_join.specs.Source.{ArePlacesOf, AreRisingClasses, IsGathered, IsTestOf, IsWithin};
 ghost use Rattle.pl_join.specs.Source.{value_at, picked, fits_slots, passes_all};
 
 use crate::relation::Relation;
+use crate::short_list::ShortList;
 use crate::slot::Slot;
-use crate::source::{Source, append, pick, sources_of, value_in};
+use crate::source::{Source, append_picked, room_for, sources_of, value_in};
 use pl_rows::Table;
 use pl_steps::Steps;
 use std::alloc::{AllocError, Global};
 use std::sync::ledger::Ledger;
-
-/// The number of classes: they are the numbers below it.
-const CLASSES: u32 = 64;
 
 /// The relation over the classes of the slots, by rising number, whose rows are the values for which the row
 /// of the slots is in the table. There is one slot for each column.
@@ -38,25 +36,106 @@ pub fn select<L: Ledger>(
     ensures cost { steps.new ≤ steps.old + length table.now.rows }
     ensures rise { steps.old ≤ steps.new }
 {
+    match rising_classes(alloc, slots)? {
+        Some(classes) => Ok(Relation::new(classes, table.copied(alloc)?)),
+        None => fitting_relation(alloc, table, slots, steps),
+    }
+}
+
+/// The classes of the slots, if all slots are classes, and these rise.
+fn rising_classes(alloc: Global, slots: &[Slot]) -> Result<Option<ShortList<u32>>, AllocError>
+    requires { All (IsSlotBelow 64) slots.now }
+    ensures classes { IfOk result (λ r. IfSome r (λ classes. AreRisingClasses slots.now classes.items)) }
+    ensures below { IfOk result (λ r. IfSome r (λ classes. All (λ c. c < 64) classes.items)) }
+{
+    let mut classes = ShortList::new(alloc);
+    let mut limit = 0;
+    for slot in slots {
+        let Some(class) = class_from(*slot, limit) else {
+            return Ok(None);
+        };
+        classes.push(class)?;
+        limit = class + 1;
+    }
+    Ok(Some(classes))
+}
+
+/// The slot's class, if it has one that is not below the limit.
+#[inline]
+fn class_from(slot: Slot, limit: u32) -> Option<u32>
+    ensures { IfSome result (λ class. (slot ≡ Slot.Class class) × (limit ≤ class)) }
+{
+    match slot {
+        Slot::Class(class) if limit <= class => Some(class),
+        _ => None,
+    }
+}
+
+/// The selection by slots that may be fixed, repeat a class or stand in any order.
+fn fitting_relation<L: Ledger>(
+    alloc: Global,
+    table: &Table,
+    slots: &[Slot],
+    steps: &mut Steps<L>,
+) -> Result<Relation, AllocError>
+    requires slots { All (IsSlotBelow 64) slots.now }
+    requires arity { length slots.now ≡ table.now.arity }
+    ensures classes { IfOk result (λ r. AreClassesOf slots.now r.classes) }
+    ensures rows { IfOk result (IsSelectionOf table.now.rows slots.now) }
+    ensures cost { steps.new ≤ steps.old + length table.now.rows }
+    ensures rise { steps.old ≤ steps.new }
+{
     let (classes, columns) = classes_of(alloc, slots)?;
-    let sources = sources_of(alloc, &classes, slots)?;
-    let kept = fitting_rows(alloc, table, &columns, &sources, steps)?;
+    let sources = sources_of(alloc, classes.as_slice(), slots)?;
+    let kept = fitting_rows(alloc, table, columns.as_slice(), sources.as_slice(), steps)?;
     Ok(Relation::new(classes, kept))
 }
 
 /// The classes of the slots by rising number, and for each class a place where it stands.
-fn classes_of(alloc: Global, slots: &[Slot]) -> Result<(Vec<u32>, Vec<usize>), AllocError>
+fn classes_of(
+    alloc: Global,
+    slots: &[Slot],
+) -> Result<(ShortList<u32>, ShortList<usize>), AllocError>
     requires { All (IsSlotBelow 64) slots.now }
     ensures classes { IfOk result (λ r. AreClassesOf slots.now r.0.items) }
     ensures below { IfOk result (λ r. All (λ c. c < 64) r.0.items) }
     ensures places { IfOk result (λ r. ArePlacesOf slots.now r.0.items r.1.items) }
 {
-    let mut classes = Vec::new(alloc);
-    let mut columns = Vec::new(alloc);
-    for class in 0..CLASSES {
+    let mut classes = ShortList::new(alloc);
+    let mut columns = ShortList::new(alloc);
+    for class in 0..limit_of(slots) {
         gather(slots, class, &mut classes, &mut columns)?;
     }
     Ok((classes, columns))
+}
+
+/// The number behind the largest class of the slots, and 0 where they have no class.
+fn limit_of(slots: &[Slot]) -> u32
+    requires { All (IsSlotBelow 64) slots.now }
+    ensures below { All (IsSlotBelow result) slots.now }
+    ensures most { result ≤ 64 }
+{
+    let mut limit = 0;
+    for slot in slots {
+        limit = limit_with(limit, *slot);
+    }
+    limit
+}
+
+/// The limit, or the number behind the slot's class where that is larger.
+#[inline]
+fn limit_with(limit: u32, slot: Slot) -> u32
+    requires slot { IsSlotBelow 64 slot }
+    requires most { limit ≤ 64 }
+    ensures below { IsSlotBelow result slot }
+    ensures more { limit ≤ result }
+    ensures most { result ≤ 64 }
+{
+    match slot {
+        Slot::Fixed(_) => limit,
+        Slot::Class(class) if class < limit => limit,
+        Slot::Class(class) => class + 1,
+    }
 }
 
 /// Appends the class and a place where it stands, if it stands in the slots. Those before it are gathered
@@ -64,8 +143,8 @@ fn classes_of(alloc: Global, slots: &[Slot]) -> Result<(Vec<u32>, Vec<usize>), A
 fn gather(
     slots: &[Slot],
     class: u32,
-    classes: &mut Vec<u32>,
-    columns: &mut Vec<usize>,
+    classes: &mut ShortList<u32>,
+    columns: &mut ShortList<usize>,
 ) -> Result<(), AllocError>
     requires { IsGathered slots.now classes.old.items columns.old.items class }
     ensures { OnOk result (IsGathered slots.now classes.new.items columns.new.items (class + 1)) }
@@ -123,28 +202,29 @@ fn fitting_rows<L: Ledger>(
     ensures rise { steps.old ≤ steps.new }
 {
     let tests = tests_of(alloc, columns, sources)?;
-    if tests.is_empty() && are_all(columns, table.arity() as usize) {
-        return table.copied(alloc);
-    }
-    passing_rows(alloc, table, columns, &tests, steps)
+    passing_rows(alloc, table, columns, tests.as_slice(), steps)
 }
 
 /// A column of a row, and where its value has to stand too.
-#[derive(Clone, Copy)]
+#[derive(Clone, Copy, Default)]
 pub struct Test {
     pub column: usize,
     pub source: Source,
 }
 
 /// The tests that a row can fail: those of fixed values, and of columns that are not picked.
-fn tests_of(alloc: Global, columns: &[usize], sources: &[Source]) -> Result<Vec<Test>, AllocError>
+fn tests_of(
+    alloc: Global,
+    columns: &[usize],
+    sources: &[Source],
+) -> Result<ShortList<Test>, AllocError>
     requires columns { All (λ column. column < length sources.now) columns.now }
     requires sources { All (IsWithin (length columns.now)) sources.now }
     ensures within { IfOk result (λ tests. All (IsTestOf (length sources.now)) tests.items) }
     ensures tests { IfOk result (λ tests. (row : List ℕ) → length row ≡ length sources.now →
         passes_all tests.items row ≡ fits_slots sources.now columns.now row) }
 {
-    let mut tests = Vec::new(alloc);
+    let mut tests = ShortList::new(alloc);
     for (column, source) in sources.iter().enumerate() {
         let source = source_through(columns, *source);
         if !is_column(source, column) {
@@ -176,21 +256,6 @@ fn is_column(source: Source, column: usize) -> bool
     }
 }
 
-/// Whether these are all columns, in their order.
-fn are_all(columns: &[usize], arity: usize) -> bool
-    ensures { IsTrue result ↔ AreAll columns.now arity }
-{
-    if columns.len() != arity {
-        return false;
-    }
-    for (i, column) in columns.iter().enumerate() {
-        if *column != i {
-            return false;
-        }
-    }
-    true
-}
-
 /// The values in the columns, of the rows that pass the tests.
 fn passing_rows<L: Ledger>(
     alloc: Global,
@@ -211,15 +276,12 @@ fn passing_rows<L: Ledger>(
     ensures rise { steps.old ≤ steps.new }
 {
     let len = table.len();
-    let mut flat = Vec::new(alloc);
+    let mut flat = room_for(alloc, len, columns.len())?;
     let mut count = 0;
-    let mut values = vec![in alloc; 0; columns.len()]?;
-    let values = values.as_mut_slice();
     for i in 0..len {
         let row = table.row(i, steps);
         if passes(row, tests) {
-            pick(values, row, columns);
-            append(&mut flat, values)?;
+            append_picked(&mut flat, row, columns)?;
             count += 1;
         }
     }

@@ -10,8 +10,8 @@ use crate::filters::{Keep, fewer_rows};
 use crate::lookup::Lookup;
 use crate::projection::project;
 use crate::relation::Relation;
-use crate::slot::Slot;
-use crate::source::sources_of;
+use crate::short_list::ShortList;
+use crate::source::class_sources;
 use pl_rows::Table;
 use pl_steps::Steps;
 use std::alloc::{AllocError, Global};
@@ -145,23 +145,11 @@ pub fn looked_up<L: Ledger>(
     ensures cost { steps.new ≤ steps.old + 2 * length table.now.rows }
     ensures rise { steps.old ≤ steps.new }
 {
-    let slots = slots_of(alloc, wanted)?;
-    let sources = sources_of(alloc, classes, &slots)?;
-    match fewer_rows(alloc, table, other, &sources, Keep::Found, steps)? {
-        Some(kept) => Ok(Some(Relation::new(Vec::from_slice(alloc, classes)?, kept))),
+    let sources = class_sources(alloc, classes, wanted)?;
+    match fewer_rows(alloc, table, other, sources.as_slice(), Keep::Found, steps)? {
+        Some(kept) => Ok(Some(Relation::new(ShortList::from_slice(alloc, classes)?, kept))),
         None => Ok(None),
     }
-}
-
-/// The classes as slots.
-fn slots_of(alloc: Global, classes: &[u32]) -> Result<Vec<Slot>, AllocError>
-    ensures { IfOk result (λ slots. slots.items ≡ map Slot.Class classes.now) }
-{
-    let mut slots = Vec::new(alloc);
-    for class in classes {
-        slots.push(Slot::Class(*class))?;
-    }
-    Ok(slots)
 }
 
 /// The classes that are among the others, in their order.
@@ -169,10 +157,10 @@ pub fn shared_classes(
     alloc: Global,
     classes: &[u32],
     others: &[u32],
-) -> Result<Vec<u32>, AllocError>
+) -> Result<ShortList<u32>, AllocError>
     ensures { IfOk result (λ shared. shared.items ≡ shared_with classes.now others.now) }
 {
-    let mut shared = Vec::new(alloc);
+    let mut shared = ShortList::new(alloc);
     for class in classes {
         if has(others, *class) {
             shared.push(*class)?;
@@ -182,10 +170,14 @@ pub fn shared_classes(
 }
 
 /// The classes that are not among the others, in their order.
-pub fn other_classes(alloc: Global, classes: &[u32], others: &[u32]) -> Result<Vec<u32>, AllocError>
+pub fn other_classes(
+    alloc: Global,
+    classes: &[u32],
+    others: &[u32],
+) -> Result<ShortList<u32>, AllocError>
     ensures { IfOk result (λ rest. rest.items ≡ without classes.now others.now) }
 {
-    let mut rest = Vec::new(alloc);
+    let mut rest = ShortList::new(alloc);
     for class in classes {
         if !has(others, *class) {
             rest.push(*class)?;

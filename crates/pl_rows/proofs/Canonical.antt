@@ -1,5 +1,6 @@
 -- Two ascending lists with the same members are equal: an ascending list is a function of its set.
-use Rattle.std.proofs.Common.{◌≡◌, ◌↔◌, ◌≤◌, ℕ, zero, suc, List, [], ◌∷◌, length, refl, sym, ◌∙◌, subst, ◌⊎◌, inl, inr, Contains, arith}
+use Rattle.std.proofs.Common.{◌≡◌, ◌↔◌, ◌≤◌, ℕ, zero, suc, List, [], ◌∷◌, length, refl, sym, ◌∙◌, subst, ◌⊎◌}
+use Rattle.std.proofs.Common.{inl, inr, Contains, arith}
 use Rattle.std.specs.Bool.{Decides}
 use Rattle.std.specs.Cmp.{IsTotalOrder}
 use Rattle.std.specs.Cmp.Lexicographic.{texts_ties}
@@ -16,7 +17,8 @@ use Rattle.std.proofs.lemmas.Map.Views.{All-after_first}
 use Rattle.pl_rows.specs.Rows.{row_cmp, IsAscending, SameRows}
 
 -- a member is the first or one of the rest
-pub Contains-cons_cases : {K : Type 0} (x : K) (xs : List K) (z : K) → Contains (x ∷ xs) z → (x ≡ z) ⊎ Contains xs z
+pub Contains-cons_cases : {K : Type 0} (x : K) (xs : List K) (z : K) →
+    Contains (x ∷ xs) z → (x ≡ z) ⊎ Contains xs z
 Contains-cons_cases x xs z (zero, h, e) = inl e
 Contains-cons_cases x xs z (suc k, h, e) = inr (k, omega arith, e)
 
@@ -38,21 +40,26 @@ not_both : {K : Type 0} (R : K → K → Ordering) → IsTotalOrder R → (x y :
 not_both R o x y h k = not_below_itself R o x (o.trans x y x h k)
 
 -- the first of one list is the first of the other
-same_first : {K : Type 0} (R : K → K → Ordering) (o : IsTotalOrder R) (x y : K) (xs ys : List K) → IsStrictlySortedBy R (x ∷ xs) → IsStrictlySortedBy R (y ∷ ys) → (x ≡ y) ⊎ Contains xs y → (y ≡ x) ⊎ Contains ys x → x ≡ y
+same_first : {K : Type 0} (R : K → K → Ordering) (o : IsTotalOrder R) (x y : K) (xs ys : List K) →
+    IsStrictlySortedBy R (x ∷ xs) → IsStrictlySortedBy R (y ∷ ys) → (x ≡ y) ⊎ Contains xs y →
+    (y ≡ x) ⊎ Contains ys x → x ≡ y
 same_first R o x y xs ys s t (inl e) _ = e
 same_first R o x y xs ys s t (inr a) (inl e) = sym e
 same_first R o x y xs ys s t (inr a) (inr b) =
-    absurd (not_both R o x y (All-contains (λ q. R x q ≡ Less) xs y (All-after_first R x xs s) a) (All-contains (λ q. R y q ≡ Less) ys x (All-after_first R y ys t) b))
+    absurd (not_both R o x y (All-contains (λ q. R x q ≡ Less) xs y (All-after_first R x xs s) a)
+    (All-contains (λ q. R y q ≡ Less) ys x (All-after_first R y ys t) b))
 
 -- a member of the rest is a member of the other rest
-rest_within : {K : Type 0} (R : K → K → Ordering) (o : IsTotalOrder R) (x y : K) (xs ys : List K) → IsStrictlySortedBy R (x ∷ xs) → x ≡ y → (z : K) → Contains xs z → (y ≡ z) ⊎ Contains ys z → Contains ys z
+rest_within : {K : Type 0} (R : K → K → Ordering) (o : IsTotalOrder R) (x y : K) (xs ys : List K) →
+    IsStrictlySortedBy R (x ∷ xs) → x ≡ y → (z : K) → Contains xs z → (y ≡ z) ⊎ Contains ys z → Contains ys z
 rest_within R o x y xs ys s e z a (inr b) = b
 rest_within {K = K} R o x y xs ys s e z a (inl f) =
     let below = All-contains (λ q. R x q ≡ Less) xs z (All-after_first R x xs s) a in
     absurd (not_below_itself R o z (subst (λ (w : K). R w z ≡ Less) (e ∙ f) below))
 
 -- two lists that ascend strictly and have the same members are equal
-pub same_ascending : {K : Type 0} (R : K → K → Ordering) (o : IsTotalOrder R) → (xs ys : List K) → IsStrictlySortedBy R xs → IsStrictlySortedBy R ys → ((z : K) → Contains xs z ↔ Contains ys z) → xs ≡ ys
+pub same_ascending : {K : Type 0} (R : K → K → Ordering) (o : IsTotalOrder R) → (xs ys : List K) →
+    IsStrictlySortedBy R xs → IsStrictlySortedBy R ys → ((z : K) → Contains xs z ↔ Contains ys z) → xs ≡ ys
 same_ascending R o [] [] s t same = refl
 same_ascending R o [] (y ∷ ys) s t same = absurd (Contains-nil y ((same y).1 (Contains-cons_first y ys)))
 same_ascending R o (x ∷ xs) [] s t same = absurd (Contains-nil x ((same x).0 (Contains-cons_first x xs)))
@@ -61,8 +68,10 @@ same_ascending R o (x ∷ xs) (y ∷ ys) s t same =
     (Contains-cons_cases x xs y ((same y).1 (Contains-cons_first y ys)))
     (Contains-cons_cases y ys x ((same x).0 (Contains-cons_first x xs))) in
     let rest : xs ≡ ys = same_ascending R o xs ys (sorted_tail R x xs s) (sorted_tail R y ys t) (λ z. (
-      λ a. rest_within R o x y xs ys s first z a (Contains-cons_cases y ys z ((same z).0 (Contains-cons_rest x xs z a))),
-      λ b. rest_within R o y x ys xs t (sym first) z b (Contains-cons_cases x xs z ((same z).1 (Contains-cons_rest y ys z b))),
+      λ a. rest_within R o x y xs ys s first z a
+          (Contains-cons_cases y ys z ((same z).0 (Contains-cons_rest x xs z a))),
+      λ b. rest_within R o y x ys xs t (sym first) z b
+          (Contains-cons_cases x xs z ((same z).1 (Contains-cons_rest y ys z b))),
     )) in
     cc
 

@@ -5,5 +5,6 @@ pub mod Places
 pub mod Directory
 pub mod Keys
 pub mod Narrowing
+pub mod PairRanges
 pub mod Sorting
 pub mod Values

@@ -1,6 +1,10 @@
 -- How a table's rows lie in memory, and how a bisection narrows them.
-use Rattle.std.specs.Prelude.{◌≡◌, ◌*◌, ◌<◌, ◌≤◌, ◌^◌, ℕ, Bool, true, false, List, [], ◌∷◌, slice_index, length, take, All, if◌then◌else◌, slice_index_or}
+use Rattle.std.specs.Prelude.{◌≡◌, ◌*◌, ◌+◌, Option, Some, IfSome, nat_eq, ◌<◌, ◌≤◌, ◌^◌, ℕ, Bool, true}
+use Rattle.std.specs.Prelude.{false, List, [], ◌∷◌, slice_index, length, take, All, if◌then◌else◌}
+use Rattle.std.specs.Prelude.{slice_index_or}
 use Rattle.std.specs.Ordering.{is_lt, is_le}
+use Rattle.indexmap.specs.IndexMap.{IndexMap, get}
+use Rattle.pl_rows.specs.declared.range.Range.{Range}
 use Rattle.pl_rows.specs.declared.bisect.Bound.{Bound}
 use Rattle.pl_rows.specs.declared.bisect.Bound.TheVariants.{Below, AtMost}
 use Rattle.pl_rows.specs.Rows.{Rows, rows_of, row_cmp, IsAscending}
@@ -26,16 +30,13 @@ pub record IsNarrowed (passes : List ℕ → Bool) (rows : List (List ℕ)) (low
   pub before : (i : ℕ) → i < low → passes (slice_index_or rows i []) ≡ true
   pub after : (i : ℕ) → high ≤ i → i < length rows → passes (slice_index_or rows i []) ≡ false
 
--- for each number below the directory's length, how many rows have a lesser first value: these are the first ones
+-- for each number below the directory's length, how many rows have a lesser first value: these are the first
+-- ones
 abbrev pub IsDirectory : List (List ℕ) → List ℕ → Type 0
 IsDirectory rows starts =
     (value : ℕ) → value < length starts →
-    (slice_index starts value ≤ length rows) × IsNarrowed (comes_before false (value ∷ [])) rows (slice_index starts value) (slice_index starts value)
-
--- what an index keeps: keys no longer than the rows, and a directory of the table's first values
-pub record IsIndexed (table : Rows) (width : ℕ) (starts : List ℕ) : Type 0 where
-  pub within : width ≤ table.arity
-  pub directory : IsDirectory table.rows starts
+    (slice_index starts value ≤ length rows) × IsNarrowed (comes_before false (value ∷ [])) rows
+    (slice_index starts value) (slice_index starts value)
 
 -- the rows whose first values are the key stand somewhere from one place up to another
 pub record IsBracket (key : List ℕ) (rows : List (List ℕ)) (from to : ℕ) : Type 0 where
@@ -50,3 +51,22 @@ pub record IsFound (key : List ℕ) (rows : List (List ℕ)) (from to : ℕ) : T
   pub within : to ≤ length rows
   pub below : IsNarrowed (comes_before false key) rows from from
   pub at_most : IsNarrowed (comes_before true key) rows to to
+
+-- two values of a key as one number
+abbrev pub pair_number : ℕ → ℕ → ℕ
+pair_number first second = first * 2 ^ 32 + second
+
+-- each range of the map is that of just the rows that begin with its two values
+abbrev pub AreRangesOfPairs : {S : Type 0} → List (List ℕ) → IndexMap ℕ Range S → Type 0
+AreRangesOfPairs rows pairs =
+    (first second : ℕ) → second < 2 ^ 32 → (range : Range) →
+    get nat_eq pairs (pair_number first second) ≡ Some range →
+    IsFound (first ∷ second ∷ []) rows range.from range.to
+
+-- what an index keeps: keys no longer than the rows, a directory of the table's first values, and maybe the
+-- ranges of rows that begin with two values
+pub record IsIndexed {S : Type 0} (table : Rows) (width : ℕ) (starts : List ℕ)
+    (pairs : Option (IndexMap ℕ Range S)) : Type 0 where
+  pub within : width ≤ table.arity
+  pub directory : IsDirectory table.rows starts
+  pub ranges : IfSome pairs (λ map. AreRangesOfPairs table.rows map)

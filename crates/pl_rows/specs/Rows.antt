@@ -1,5 +1,6 @@
 -- Rows of numbers, the order in which a table keeps them, and the set that a table stands for.
-use Rattle.std.specs.Prelude.{◌≡◌, ◌↔◌, ℕ, zero, suc, Bool, List, [], ◌∷◌, length, take, drop, All, Contains, Some, IsTrue, slice_get, ◌<◌, ◌≤◌}
+use Rattle.std.specs.Prelude.{◌≡◌, ◌↔◌, ℕ, zero, suc, Bool, List, [], ◌∷◌, length, take, drop, All, Contains}
+use Rattle.std.specs.Prelude.{Some, IsTrue, slice_get, ◌<◌, ◌≤◌}
 use Rattle.std.specs.declared.cmp.Ordering.{Ordering}
 use Rattle.std.specs.Ordering.{is_lt, nat_cmp}
 use Rattle.std.specs.Str.{bytes_eq}

@@ -1,6 +1,7 @@
 //! Rows in a flat slice, which need be no table: the row at a place, and bisection. No probe is counted.
 
-ghost use Rattle.std.specs.Prelude.{◌≡◌, ◌↔◌, ◌*◌, ◌-◌, ◌<◌, ◌≤◌, length, IsTrue, Contains, slice_get, slice_range};
+ghost use Rattle.std.specs.Prelude.{◌≡◌, ◌↔◌, ◌*◌, ◌-◌, ◌<◌, ◌≤◌, length, IsTrue, Contains, slice_get};
+ghost use Rattle.std.specs.Prelude.{slice_range};
 ghost use Rattle.pl_rows.specs.Rows.{rows_of, IsAscending};
 ghost use Rattle.pl_rows.specs.Layout.{comes_before, takes_equal, IsNarrowed};
 

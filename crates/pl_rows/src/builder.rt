@@ -11,7 +11,8 @@ use std::marker::Model;
 
 /// A table that is being made: rows of one width, one behind another, in any order.
 ///
-/// It takes over rows of a table without a probe, and lets none be read: they are read in the table that it becomes.
+/// It takes over rows of a table without a probe, and lets none be read: they are read in the table that it
+/// becomes.
 #[derive(Drop)]
 pub struct TableBuilder {
     arity: u32,
@@ -45,7 +46,10 @@ impl TableBuilder {
     /// The first `count` rows of a table. It takes no probe. The only error is want of memory.
     pub fn front_of(alloc: Global, table: &Table, count: usize) -> Result<TableBuilder, AllocError>
         requires { count ≤ length table.now.rows }
-        ensures { IfOk result (λ b. b ≡ record { arity = table.now.arity; rows = take count table.now.rows }) }
+        ensures { IfOk result (λ b. b ≡ record {
+          arity = table.now.arity;
+          rows = take count table.now.rows;
+        }) }
     {
         let arity = table.arity();
         let flat = Vec::from_slice(alloc, table.part(Range { from: 0, to: count }))?;

@@ -4,11 +4,13 @@ ghost use Rattle.std.specs.Prelude.{◌≡◌, ◌↔◌, ◌+◌, ◌-◌, ◌<
 ghost use Rattle.std.specs.Prelude.{length, take, map, Contains, IsTrue, count_by, replicate};
 ghost use Rattle.std.specs.Prelude.{filter, slice_range, IfOk, IfSome, OnOk};
 ghost use Rattle.pl_rows.specs.Rows.{AreRowsOf, is_below, begins_with};
-ghost use Rattle.pl_rows.specs.Layout.{IsDirectory, IsBracket, IsFound};
+ghost use Rattle.pl_rows.specs.Layout.{IsDirectory, IsBracket, IsFound, AreRangesOfPairs};
 
 use crate::bisect::Bound;
+use crate::pairs::{has_long_run, pair_bracket, ranges_of_pairs};
 use crate::range::Range;
 use crate::table::Table;
+use indexmap::IndexMap;
 use pl_steps::Steps;
 use std::alloc::{AllocError, Global};
 use std::marker::Model;
@@ -19,14 +21,19 @@ const ENTRIES_PER_ROW: usize = 4;
 
 /// A table whose rows are found by a key: their first `width` values.
 ///
-/// Rows with one key are neighbors, so the answer to a look-up is a range of places. A directory by the first value
-/// narrows each look-up to the rows with that value, and bisection does the rest. So a key of one value takes no search
-/// where the table's first values are small numbers, as the numbers of objects are.
+/// Rows with one key are neighbors, so the answer to a look-up is a range of places. A directory by the first
+/// value narrows each look-up to the rows with that value, and bisection does the rest. So a key of one value
+/// takes no search where the table's first values are small numbers, as the numbers of objects are.
+///
+/// An index that lasts has, where keys have two or more values and a long run of rows has one first value, a
+/// map from the first two values, which narrows the look-up to the rows with both. Two values that no row
+/// begins with are looked up as without the map.
 #[derive(Drop)]
 pub struct Indexed {
     table: Table,
     width: u32,
     starts: Vec<u32>,
+    pairs: Option<IndexMap<u64, Range>>,
 }
 
 impl Model for Indexed {
@@ -37,7 +44,7 @@ impl Model for Indexed {
 
     ghost view = { λ x. record { table = x.table; width = x.width } };
 
-    ghost invariant = { λ x. IsIndexed x.table x.width x.starts.items };
+    ghost invariant = { λ x. IsIndexed x.table x.width x.starts.items x.pairs };
 }
 
 impl Indexed {
@@ -63,6 +70,24 @@ impl Indexed {
             table,
             width,
             starts,
+            pairs: None,
+        })
+    }
+
+    /// The index, made ready for many look-ups: where keys have two or more values and a long run of rows has
+    /// one first value, it gets a map from the first two values. To make it takes far longer than a look-up
+    /// without it, so it is worth that only for a table that stays. It takes no probe.
+    ///
+    /// The only error is want of memory.
+    pub fn lasting(self, alloc: Global) -> Result<Indexed, AllocError>
+        ensures { IfOk result (λ x. x ≡ self) }
+    {
+        let pairs = long_runs(alloc, &self.table, self.width)?;
+        Ok(Indexed {
+            table: self.table,
+            width: self.width,
+            starts: self.starts,
+            pairs,
         })
     }
 
@@ -98,7 +123,7 @@ impl Indexed {
                 return range;
             }
         }
-        let near = bracket(&self.table, &self.starts, key);
+        let near = near(&self.table, &self.starts, &self.pairs, key);
         let from = self.table.bisected(key, Bound::Below, near.from, near.to);
         let to = self.table.bisected(key, Bound::AtMost, from, near.to);
         Range { from, to }
@@ -115,6 +140,22 @@ impl Indexed {
     }
 }
 
+/// The ranges of the rows that begin with the same two values, where keys have two and many rows one first
+/// value.
+fn long_runs(
+    alloc: Global,
+    table: &Table,
+    width: u32,
+) -> Result<Option<IndexMap<u64, Range>>, AllocError>
+    requires { width ≤ table.now.arity }
+    ensures { IfOk result (λ found. IfSome found (λ pairs. AreRangesOfPairs table.now.rows pairs)) }
+{
+    if width < 2 || !has_long_run(table) {
+        return Ok(None);
+    }
+    Ok(Some(ranges_of_pairs(alloc, table)?))
+}
+
 /// How many numbers the directory of a table with so many rows may have entries for.
 fn directory_limit(count: usize, width: u32) -> usize
     ensures { 0 < result → (0 < width) × (count < 2 ^ 32) }
@@ -125,7 +166,8 @@ fn directory_limit(count: usize, width: u32) -> usize
     count * ENTRIES_PER_ROW
 }
 
-/// For each number below the limit, as far as there are greater first values: how many rows have a lesser first value.
+/// For each number below the limit, as far as there are greater first values: how many rows have a lesser
+/// first value.
 fn directory<L: Ledger>(
     alloc: Global,
     table: &Table,
@@ -177,6 +219,26 @@ fn listed(table: &Table, starts: &[u32], first: u32) -> Option<Range>
         from: starts[first] as usize,
         to: starts[first + 1] as usize,
     })
+}
+
+/// Between which places the rows with the key are: by its first two values where the map has them, or else
+/// by the first.
+#[inline]
+fn near(table: &Table, starts: &[u32], pairs: &Option<IndexMap<u64, Range>>, key: &[u32]) -> Range
+    requires directory { IsDirectory table.now.rows starts.now }
+    requires ranges { IfSome pairs.now (λ map. AreRangesOfPairs table.now.rows map) }
+    ensures { IsBracket key.now table.now.rows result.from result.to }
+{
+    let Some(pairs) = pairs else {
+        return bracket(table, starts, key);
+    };
+    if key.len() < 2 {
+        return bracket(table, starts, key);
+    }
+    match pair_bracket(table, pairs, key) {
+        Some(range) => range,
+        None => bracket(table, starts, key),
+    }
 }
 
 /// Between which places the rows with the key are, by the key's first value.

@@ -8,6 +8,7 @@ mod builder;
 mod indexed;
 pub mod laws;
 mod nearby;
+mod pairs;
 mod range;
 mod sort;
 mod table;

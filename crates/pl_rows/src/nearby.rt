@@ -68,7 +68,8 @@ fn place_near(flat: &[u32], arity: usize, count: usize, row: &[u32], near: usize
     }
 }
 
-/// How many rows are below the row, where those before `low` are known to be below it: in strides that double.
+/// How many rows are below the row, where those before `low` are known to be below it: in strides that
+/// double.
 fn place_ahead(flat: &[u32], arity: usize, count: usize, row: &[u32], mut low: usize) -> usize
     requires whole { length flat.now ≡ arity * count }
     requires ascending { IsAscending (rows_of arity count flat.now) }

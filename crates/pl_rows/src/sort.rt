@@ -62,7 +62,8 @@ fn sorted_arrays<const N: usize>(
 {
     let (arrays, _) = flat.as_chunks::<N>();
     let mut rows: Vec<[u32; N]> = Vec::from_slice(alloc, arrays)?;
-    // Mostly these are the columns of a table in another order. They come in runs, on which a merge sort is faster.
+    // Mostly these are the columns of a table in another order. They come in runs, on which a merge sort is
+    // faster.
     rows.sort()?;
     rows.dedup();
     let distinct = rows.as_slice();
@@ -98,7 +99,8 @@ fn sorted_slices(
 fn joined(alloc: Global, rows: &[&[u32]], arity: usize) -> Result<Vec<u32>, AllocError>
     requires { All (λ row. length row.now ≡ arity) rows.now }
     ensures whole { IfOk result (λ flat. length flat.items ≡ arity * length rows.now) }
-    ensures rows { IfOk result (λ flat. rows_of arity (length rows.now) flat.items ≡ map (λ row. row.now) rows.now) }
+    ensures rows { IfOk result (λ flat. rows_of arity (length rows.now) flat.items ≡ map
+        (λ row. row.now) rows.now) }
 {
     let mut flat = Vec::new(alloc);
     for row in rows {

@@ -17,8 +17,9 @@ use std::sync::ledger::Ledger;
 
 /// A relation of numbers: a set of rows with as many values each as the table's arity.
 ///
-/// The rows stand in ascending lexicographic order, each once, so two tables with the same set of rows are the same.
-/// They lie one after another in one block of memory. A table of arity 0 has no row, or the one empty row.
+/// The rows stand in ascending lexicographic order, each once, so two tables with the same set of rows are
+/// the same. They lie one after another in one block of memory. A table of arity 0 has no row, or the one
+/// empty row.
 #[derive(Drop)]
 pub struct Table {
     arity: u32,
@@ -40,8 +41,8 @@ impl Model for Table {
 impl Table {
     /// The table of the rows that lie one after another in `flat`, `rows` of them with `arity` values each.
     ///
-    /// They may come in any order and repeat. Rows that ascend already are recognised in one pass, and `flat` is kept
-    /// as it is. Other rows are sorted by `n log n` comparisons. The only error is want of memory.
+    /// They may come in any order and repeat. Rows that ascend already are recognised in one pass, and `flat`
+    /// is kept as it is. Other rows are sorted by `n log n` comparisons. The only error is want of memory.
     pub fn from_rows(
         alloc: Global,
         arity: u32,
@@ -176,9 +177,19 @@ impl Table {
         rows_between(&self.flat, self.arity as usize, self.count, range)
     }
 
+    /// Row `i`, counted from 0. It takes no probe.
+    pub(crate) fn row_unprobed(&self, i: usize) -> &[u32]
+        requires { i < length self.now.rows }
+        ensures row { slice_get self.now.rows i ≡ Some result.now }
+        ensures width { length result.now ≡ self.now.arity }
+    {
+        row_at(&self.flat, self.arity as usize, self.count, i)
+    }
+
     /// How many rows the bound takes: those whose first values are below the prefix, or at most the prefix.
     ///
-    /// That the rows before `low` are among them, and those from `high` on are not, is known. It takes no probe.
+    /// That the rows before `low` are among them, and those from `high` on are not, is known. It takes no
+    /// probe.
     pub(crate) fn bisected(&self, prefix: &[u32], bound: Bound, low: usize, high: usize) -> usize
         requires short { length prefix.now ≤ self.now.arity }
         requires in_order { low ≤ high }
@@ -186,7 +197,8 @@ impl Table {
         requires narrowed { IsNarrowed (comes_before (takes_equal bound) prefix.now) self.now.rows low high }
         ensures from { low ≤ result }
         ensures to { result ≤ high }
-        ensures narrowed { IsNarrowed (comes_before (takes_equal bound) prefix.now) self.now.rows result result }
+        ensures narrowed { IsNarrowed (comes_before (takes_equal bound) prefix.now)
+            self.now.rows result result }
     {
         bisect(
             &self.flat,

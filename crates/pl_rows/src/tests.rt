@@ -173,6 +173,49 @@ const ASKED: &[Asked] = &[
     },
 ];
 
+const ASKED_IN_LONG_RUN: &[Asked] = &[
+    Asked {
+        key: &[5, 0],
+        below: 0,
+        with: 2,
+    },
+    Asked {
+        key: &[5, 147],
+        below: 98,
+        with: 2,
+    },
+    Asked {
+        key: &[5, 30, 1],
+        below: 21,
+        with: 1,
+    },
+    Asked {
+        key: &[5, 30, 2],
+        below: 22,
+        with: 0,
+    },
+    Asked {
+        key: &[5, 31],
+        below: 22,
+        with: 0,
+    },
+    Asked {
+        key: &[5, 148],
+        below: 100,
+        with: 0,
+    },
+    Asked {
+        key: &[4, 9],
+        below: 0,
+        with: 0,
+    },
+    Asked {
+        key: &[6, 0],
+        below: 100,
+        with: 0,
+    },
+];
+
 fn table_of(
     alloc: Global,
     arity: u32,
@@ -306,6 +349,41 @@ fn is_answered<L: Ledger>(alloc: Global, asked: &Asked, blank: Blank) -> Result<
     finds(alloc, table, asked, &mut steps)
 }
 
+/// Whether the key is found where it is among 100 rows with one first value: each second value is a multiple of 3,
+/// and is in two rows.
+fn is_found_in_long_run<L: Ledger>(
+    alloc: Global,
+    asked: &Asked,
+    blank: Blank,
+) -> Result<bool, AllocError>
+    requires name { blank.name ≡ L.name }
+    requires parts { blank.parts ≡ L.parts }
+    requires some { 0 < blank.parts }
+{
+    let mut steps: Steps<L> = Steps::new(blank);
+    let mut flat = Vec::new(alloc);
+    for i in 0..100_u32 {
+        flat.push(5)?;
+        flat.push(i / 2 * 3)?;
+        flat.push(i % 2)?;
+    }
+    let Some(table) = table_of(alloc, 3, 100, &flat)? else {
+        return Ok(false);
+    };
+    let Ok(width) = u32::try_from(asked.key.len()) else {
+        return Ok(false);
+    };
+    if table.arity() < width {
+        return Ok(false);
+    }
+    let want = Range {
+        from: asked.below,
+        to: asked.below.wrapping_add(asked.with),
+    };
+    let indexed = Indexed::build(alloc, table, width, &mut steps)?.lasting(alloc)?;
+    Ok(indexed.find(asked.key, &mut steps) == want)
+}
+
 /// How many rows of the first table are below the key.
 fn pairs_below<L: Ledger>(alloc: Global, key: &[u32], blank: Blank) -> Result<usize, AllocError>
     requires name { blank.name ≡ L.name }
@@ -354,6 +432,15 @@ fn a_key_counts_the_rows_below_it(rt: HostRuntime) -> Result<(), Fail> {
     for (key, below) in cases {
         let found = pairs_below::<Brand>(rt.alloc(), key, Blank::new(1))?;
         assert_eq!(rt; found, below);
+    }
+    Ok(())
+}
+
+#[test]
+fn keys_are_found_in_a_long_run(rt: HostRuntime) -> Result<(), Fail> {
+    for (i, asked) in ASKED_IN_LONG_RUN.iter().enumerate() {
+        let met = is_found_in_long_run::<Brand>(rt.alloc(), asked, Blank::new(1))?;
+        assert!(rt; met, "case {i}");
     }
     Ok(())
 }

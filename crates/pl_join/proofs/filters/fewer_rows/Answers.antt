@@ -1,4 +1,4 @@
-use Rattle.std.proofs.Common.{◌≡◌, filter, length, ap, arith, sym, subst, ◌∙◌}
+use Rattle.std.proofs.Common.{filter, ap, arith, sym, subst, ◌∙◌}
 use Rattle.std.proofs.lemmas.List.{take_all, length_push}
 use Rattle.pl_rows.specs.Rows.{Rows, AreRows, IsAscending}
 use Rattle.pl_join.specs.Lookup.{keys_of}

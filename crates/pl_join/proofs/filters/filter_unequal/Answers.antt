@@ -6,4 +6,4 @@ returns-clause-rows g c =
     unequal_made c.args.relation.now _ _ _ _ c.in_ok-table.table c.args.a c.args.b c.source_of-first.result
     c.source_of-second.result c.classes-classes.ensures.classes c.table.ensures
     c.source_of-first.ensures.value c.source_of-second.ensures.value c.in_ok-table.ensures.same
-    c.in_ok-from_slice.ensures.items c.new.ensures
+    c.in_ok-from_slice.ensures.ok c.new.ensures

@@ -32,5 +32,5 @@ loop-i-preserved g c = elim c.if-value_in.branch [
 
 pub returns-clause-same : goal.returns-clause-same
 returns-clause-same g c =
-    same_along _ _ _ (kept_all (differ c.args.a c.args.b) _ _ _ _ _ _ c.arity.ensures
-    (omega (arith, c.len-i-end.ensures.len)) c.loop-i.invariant.rows) c.from_rows.ensures.same
+    same_along _ _ _ (kept_all (differ c.args.a c.args.b) _ _ _ _ _ _ c.arity-2.ensures
+    (omega (arith, c.len-len.ensures.len)) c.loop-i.invariant.rows) c.from_rows.ensures.same

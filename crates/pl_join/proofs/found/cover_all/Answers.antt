@@ -1,4 +1,4 @@
-use Rattle.std.proofs.Common.{◌≡◌, length, take, get_or, slice_range, ap, sym, ◌∙◌, arith}
+use Rattle.std.proofs.Common.{length, take, get_or, slice_range, ap, sym, ◌∙◌, arith}
 use Rattle.std.proofs.lemmas.Bool.Decides.{Decides-eqb}
 use Rattle.std.proofs.lemmas.List.{take_all, length-append}
 use Rattle.pl_rows.specs.declared.range.Range.{Range}

@@ -1,5 +1,4 @@
-use Rattle.std.proofs.Common.{[], arith, take}
-use Rattle.std.proofs.lemmas.List.{take_all}
+use Rattle.std.proofs.Common.{[], arith}
 use Rattle.std.proofs.lemmas.Option.{slice_get_within, get_or_from_slice_get}
 use Rattle.pl_join.proofs.Founds.{found_more}
 use Rattle.pl_join.proofs.found.ranges_found.Goals as goal

@@ -1,4 +1,4 @@
-use Rattle.std.proofs.Common.{◌≡◌, ◌≢◌, ◌≤◌, length, ap, sym, ◌∙◌, subst, arith, Option, IfOk, IfSome}
+use Rattle.std.proofs.Common.{◌≢◌, length, sym, ◌∙◌, arith}
 use Rattle.std.proofs.lemmas.Bool.{false≢true}
 use Rattle.pl_join.specs.Found.{rows_in}
 use Rattle.pl_join.proofs.Founds.{found_most, found_all, found_same}

@@ -1,4 +1,4 @@
-use Rattle.std.proofs.Common.{◌≡◌, ◌+◌, ◌-◌, ◌<◌, ◌++◌, true, false, All, Contains, length, ap, sym, subst}
+use Rattle.std.proofs.Common.{◌≡◌, ◌+◌, ◌-◌, ◌<◌, ◌++◌, All, Contains, length, ap, sym, subst}
 use Rattle.std.proofs.Common.{◌∙◌, arith}
 use Rattle.std.proofs.lemmas.List.{append-nil, length-append}
 use Rattle.std.proofs.lemmas.Result.{IfOk-weaker}
@@ -16,7 +16,7 @@ restricted-requires g c =
     let rest : c.as_slice-rest.result.now ≡ without c.args.right.now.classes c.args.left.now.classes =
     chosen_is without c.args.right.now.classes c.args.left.now.classes _ _ _ _
     c.classes-others.ensures.classes c.classes-classes.ensures.classes c.in_ok-rest.ensures
-    c.as_slice-rest.ensures.value in
+    c.as_slice-rest.ensures in
     let empty = none_left c.args.right.now.classes c.args.left.now.classes c.as_slice-rest.result.now _ rest
     c.is_empty.ensures c.if-is_empty.true in
     all_among c.args.right.now.classes c.args.left.now.classes empty
@@ -26,7 +26,7 @@ returns-then-is_empty-clause-classes g c =
     let rest : c.as_slice-rest.result.now ≡ without c.args.right.now.classes c.args.left.now.classes =
     chosen_is without c.args.right.now.classes c.args.left.now.classes _ _ _ _
     c.classes-others.ensures.classes c.classes-classes.ensures.classes c.in_ok-rest.ensures
-    c.as_slice-rest.ensures.value in
+    c.as_slice-rest.ensures in
     let empty = none_left c.args.right.now.classes c.args.left.now.classes c.as_slice-rest.result.now _ rest
     c.is_empty.ensures c.if-is_empty.true in
     IfOk-weaker _ (λ (r : ClassRows). r.classes ≡ c.args.left.now.classes)
@@ -40,7 +40,7 @@ columns_of-requires g c =
     let shared : c.as_slice-shared.result.now ≡ shared_with c.args.right.now.classes c.args.left.now.classes =
     chosen_is shared_with c.args.right.now.classes c.args.left.now.classes _ _ _ _
     c.classes-others.ensures.classes c.classes-classes.ensures.classes c.in_ok-shared.ensures
-    c.as_slice-shared.ensures.value in
+    c.as_slice-shared.ensures in
     rw c.classes-classes.ensures.classes
     (subst (All (Contains c.args.left.now.classes)) (sym shared)
     (shared_held c.args.right.now.classes c.args.left.now.classes))
@@ -50,11 +50,11 @@ indexed-requires-clause-held g c =
     let rest : c.as_slice-rest.result.now ≡ without c.args.right.now.classes c.args.left.now.classes =
     chosen_is without c.args.right.now.classes c.args.left.now.classes _ _ _ _
     c.classes-others.ensures.classes c.classes-classes.ensures.classes c.in_ok-rest.ensures
-    c.as_slice-rest.ensures.value in
+    c.as_slice-rest.ensures in
     let shared : c.as_slice-shared.result.now ≡ shared_with c.args.right.now.classes c.args.left.now.classes =
     chosen_is shared_with c.args.right.now.classes c.args.left.now.classes _ _ _ _
     c.classes-others.ensures.classes c.classes-classes.ensures.classes c.in_ok-shared.ensures
-    c.as_slice-shared.ensures.value in
+    c.as_slice-shared.ensures in
     let both : c.as_slice-shared.result.now ++ c.as_slice-rest.result.now ≡ shared_with
     c.args.right.now.classes c.args.left.now.classes
     ++ without c.args.right.now.classes c.args.left.now.classes =
@@ -68,11 +68,11 @@ indexed-requires-clause-distinct g c =
     let rest : c.as_slice-rest.result.now ≡ without c.args.right.now.classes c.args.left.now.classes =
     chosen_is without c.args.right.now.classes c.args.left.now.classes _ _ _ _
     c.classes-others.ensures.classes c.classes-classes.ensures.classes c.in_ok-rest.ensures
-    c.as_slice-rest.ensures.value in
+    c.as_slice-rest.ensures in
     let shared : c.as_slice-shared.result.now ≡ shared_with c.args.right.now.classes c.args.left.now.classes =
     chosen_is shared_with c.args.right.now.classes c.args.left.now.classes _ _ _ _
     c.classes-others.ensures.classes c.classes-classes.ensures.classes c.in_ok-shared.ensures
-    c.as_slice-shared.ensures.value in
+    c.as_slice-shared.ensures in
     let both : c.as_slice-shared.result.now ++ c.as_slice-rest.result.now ≡ shared_with
     c.args.right.now.classes c.args.left.now.classes
     ++ without c.args.right.now.classes c.args.left.now.classes =
@@ -87,11 +87,11 @@ joined_rows-requires-clause-few g c =
     let rest : c.as_slice-rest.result.now ≡ without c.args.right.now.classes c.args.left.now.classes =
     chosen_is without c.args.right.now.classes c.args.left.now.classes _ _ _ _
     c.classes-others.ensures.classes c.classes-classes.ensures.classes c.in_ok-rest.ensures
-    c.as_slice-rest.ensures.value in
+    c.as_slice-rest.ensures in
     let shared : c.as_slice-shared.result.now ≡ shared_with c.args.right.now.classes c.args.left.now.classes =
     chosen_is shared_with c.args.right.now.classes c.args.left.now.classes _ _ _ _
     c.classes-others.ensures.classes c.classes-classes.ensures.classes c.in_ok-shared.ensures
-    c.as_slice-shared.ensures.value in
+    c.as_slice-shared.ensures in
     omega (
       arith,
       ap (λ (t : Rows). t.arity) c.table.ensures,
@@ -114,7 +114,7 @@ new-requires-clause-distinct g c =
     let rest : c.as_slice-rest.result.now ≡ without c.args.right.now.classes c.args.left.now.classes =
     chosen_is without c.args.right.now.classes c.args.left.now.classes _ _ _ _
     c.classes-others.ensures.classes c.classes-classes.ensures.classes c.in_ok-rest.ensures
-    c.as_slice-rest.ensures.value in
+    c.as_slice-rest.ensures in
     let items : c.in_ok-appended.field-0.items ≡ c.args.left.now.classes
     ++ without c.args.right.now.classes c.args.left.now.classes =
     c.in_ok-appended.ensures ∙ ap (λ l. l ++ c.as_slice-rest.result.now) c.classes-classes.ensures.classes
@@ -128,7 +128,7 @@ new-requires-clause-below g c =
     let rest : c.as_slice-rest.result.now ≡ without c.args.right.now.classes c.args.left.now.classes =
     chosen_is without c.args.right.now.classes c.args.left.now.classes _ _ _ _
     c.classes-others.ensures.classes c.classes-classes.ensures.classes c.in_ok-rest.ensures
-    c.as_slice-rest.ensures.value in
+    c.as_slice-rest.ensures in
     let items : c.in_ok-appended.field-0.items ≡ c.args.left.now.classes
     ++ without c.args.right.now.classes c.args.left.now.classes =
     c.in_ok-appended.ensures ∙ ap (λ l. l ++ c.as_slice-rest.result.now) c.classes-classes.ensures.classes
@@ -157,7 +157,7 @@ returns-clause-classes g c =
     let rest : c.as_slice-rest.result.now ≡ without c.args.right.now.classes c.args.left.now.classes =
     chosen_is without c.args.right.now.classes c.args.left.now.classes _ _ _ _
     c.classes-others.ensures.classes c.classes-classes.ensures.classes c.in_ok-rest.ensures
-    c.as_slice-rest.ensures.value in
+    c.as_slice-rest.ensures in
     let items : c.in_ok-appended.field-0.items ≡ c.args.left.now.classes
     ++ without c.args.right.now.classes c.args.left.now.classes =
     c.in_ok-appended.ensures ∙ ap (λ l. l ++ c.as_slice-rest.result.now) c.classes-classes.ensures.classes
@@ -170,6 +170,6 @@ returns-clause-rows g c =
     c.in_ok-columns.columns.items _ _ _ c.in_ok-table.table c.in_ok-index.index.table.rows
     c.classes-classes.ensures.relation c.classes-classes.ensures.classes c.classes-others.ensures.classes
     c.in_ok-rest.ensures c.in_ok-shared.ensures
-    c.as_slice-rest.ensures.value c.as_slice-shared.ensures.value c.in_ok-columns.ensures.len
-    c.in_ok-columns.ensures.values c.deref.ensures.value c.table.ensures
+    c.as_slice-rest.ensures c.as_slice-shared.ensures c.in_ok-columns.ensures.len
+    c.in_ok-columns.ensures.values c.as_slice.ensures c.table.ensures
     c.in_ok-index.ensures.rows c.in_ok-table.ensures.same c.in_ok-appended.ensures c.new.ensures

@@ -1,8 +1,7 @@
-use Rattle.std.proofs.Common.{◌≡◌, length, map, take, filter, ap, sym, ◌∙◌, subst, arith, Option, IfOk}
-use Rattle.std.proofs.Common.{IfSome, IfNone, Result}
-use Rattle.std.proofs.lemmas.List.Elements.{All-contains_itself}
+use Rattle.std.proofs.Common.{◌≡◌, length, filter, ap, sym, ◌∙◌, subst, Option, IfOk}
+use Rattle.std.proofs.Common.{IfSome, IfNone}
 use Rattle.pl_rows.specs.Rows.{Rows, IndexedRows, SameRows}
-use Rattle.pl_join.specs.Relation.{ClassRows, IsJoinOf}
+use Rattle.pl_join.specs.Relation.{IsJoinOf}
 use Rattle.pl_join.specs.Found.{has_key}
 use Rattle.pl_join.specs.Source.{of_rows}
 use Rattle.pl_join.proofs.Keys.{keyed_made, keyed_whole, front_within}
@@ -47,7 +46,7 @@ returns-in_ok-from_slice-in-Some-clause-rows g c =
     keyed_made c.args.keep.now c.args.keys.now c.new.result c.in-Some.kept c.table-2.result.now
     c.indexed.result.now c.classes-in-Some.result.now _ c.requires c.indexed.ensures c.table-2.ensures
     same
-    c.classes-in-Some.ensures.classes c.in_ok-from_slice-in-Some.ensures.items c.new.ensures
+    c.classes-in-Some.ensures.classes c.in_ok-from_slice-in-Some.ensures.ok c.new.ensures
 
 pub returns-in-None-clause-same : goal.returns-in-None-clause-same
 returns-in-None-clause-same g c =

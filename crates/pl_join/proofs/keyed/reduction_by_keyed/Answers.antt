@@ -1,4 +1,4 @@
-use Rattle.std.proofs.Common.{◌≡◌, length, map, take, ap, sym, ◌∙◌, arith, Option, IfSome, IfNone}
+use Rattle.std.proofs.Common.{map, take, ap, sym, ◌∙◌, Option, IfSome, IfNone}
 use Rattle.std.proofs.lemmas.Option.{IfSome_then}
 use Rattle.std.proofs.lemmas.Result.{IfOk-weaker}
 use Rattle.pl_rows.specs.Rows.{IndexedRows}

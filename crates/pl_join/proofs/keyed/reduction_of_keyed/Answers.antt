@@ -1,4 +1,4 @@
-use Rattle.std.proofs.Common.{◌≡◌, ap, sym, ◌∙◌, Option, IfSome, IfNone}
+use Rattle.std.proofs.Common.{◌∙◌, Option, IfSome, IfNone}
 use Rattle.std.proofs.lemmas.Option.{IfSome_then}
 use Rattle.std.proofs.lemmas.Result.{IfOk-weaker}
 use Rattle.pl_join.specs.Relation.{ClassRows, IsJoinOf, IsSemijoinOf}

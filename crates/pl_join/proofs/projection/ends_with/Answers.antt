@@ -1,11 +1,10 @@
 use Rattle.std.proofs.Common.{◌-◌, length, sym, ◌∙◌}
 use Rattle.std.proofs.lemmas.List.{take_rest}
-use Rattle.std.proofs.lemmas.Slice.Eq.{bytes_eq-Decides}
 use Rattle.pl_join.proofs.projection.ends_with.Goals as goal
 
 pub returns : goal.returns
 returns c =
-    let rest = take_rest c.args.flat.now (length c.args.flat.now - length c.args.row.now) in (
-      λ t. sym rest ∙ (bytes_eq-Decides _ _).0 (sym c.eq.ensures ∙ t),
-      λ e. c.eq.ensures ∙ (bytes_eq-Decides _ _).1 (rest ∙ e),
+    let rest = take_rest c.args.flat.now (length c.args.flat.now - length c.args.columns.now) in (
+      λ t. sym rest ∙ c.are_picked.ensures.0 t,
+      λ e. c.are_picked.ensures.1 (rest ∙ e),
     )

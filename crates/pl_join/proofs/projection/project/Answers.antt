@@ -14,14 +14,14 @@ picked_rows-requires-clause-few g c =
     c.classes-held.ensures.relation.below c.requires.held in
     omega (
       arith,
-      ap length c.deref.ensures.value,
+      ap length c.as_slice.ensures,
       c.in_ok-columns.ensures.len,
       few_classes c.args.classes.now 64 c.requires.distinct below,
     )
 
 pub new-requires-clause-below : goal.new-requires-clause-below
 new-requires-clause-below g c =
-    rw c.in_ok-from_slice.ensures.items
+    rw c.in_ok-from_slice.ensures.ok
     (held_below c.args.relation.now.classes c.args.classes.now 64 c.classes-held.ensures.relation.below
     c.requires.held)
 
@@ -29,8 +29,8 @@ pub returns-clause-rows : goal.returns-clause-rows
 returns-clause-rows g c =
     projected_made c.args.relation.now _ _ c.args.classes.now _ _ _ _ c.in_ok-table.table
     c.classes-held.ensures.relation c.classes-held.ensures.classes c.table.ensures
-    c.in_ok-columns.ensures.values c.deref.ensures.value c.in_ok-table.ensures.same
-    c.in_ok-from_slice.ensures.items c.new.ensures
+    c.in_ok-columns.ensures.values c.as_slice.ensures c.in_ok-table.ensures.same
+    c.in_ok-from_slice.ensures.ok c.new.ensures
 
 pub returns-then-eq-clause-rows : goal.returns-then-eq-clause-rows
 returns-then-eq-clause-rows g c =

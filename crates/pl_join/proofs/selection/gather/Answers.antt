@@ -5,5 +5,5 @@ pub returns-in-None : goal.returns-in-None
 returns-in-None c = gathered_skip _ _ _ _ c.requires c.in-None.ensures.none
 
 pub returns-in_ok-push-in-Some-2 : goal.returns-in_ok-push-in-Some-2
-returns-in_ok-push-in-Some-2 c = rw (c.in_ok-push-in-Some.ensures.items, c.in_ok-push-in-Some-2.ensures.items)
+returns-in_ok-push-in-Some-2 c = rw (c.in_ok-push-in-Some.ensures.ok, c.in_ok-push-in-Some-2.ensures.ok)
     (gathered_more _ _ _ _ _ c.requires c.in-Some.ensures.place)

@@ -5,7 +5,6 @@ use Rattle.pl_join.proofs.selection.passing_rows.Given as goal
 
 abbrev pub invariant-loop-i : goal.invariant-loop-i
 invariant-loop-i g l = record {
-  values : length l.values ≡ length l.columns;
   few : l.count ≤ l.i;
   whole : length l.flat.items ≡ length l.columns * l.count;
   rows : rows_of (length l.columns) l.count l.flat.items ≡ map (picked l.columns)

@@ -1,51 +1,26 @@
-use Rattle.std.proofs.Common.{All, length, ap, sym, subst, ◌∙◌, arith}
-use Rattle.pl_rows.specs.Rows.{AreRows}
-use Rattle.pl_join.specs.Source.{IsWithin}
-use Rattle.pl_join.proofs.Assignments.{few_classes}
-use Rattle.pl_join.proofs.Gathering.{slots_over, rising_distinct}
-use Rattle.pl_join.proofs.Operations.{selected_made}
+use Rattle.std.proofs.Common.{◌∙◌, ap, sym, subst, IfSome}
+use Rattle.pl_rows.specs.Rows.{Rows}
+use Rattle.pl_join.specs.Source.{AreRisingClasses}
+use Rattle.pl_join.proofs.Rising.{rising_are, rising_many, rising_selected}
 use Rattle.pl_join.proofs.selection.select.Goals as goal
 
-pub sources_of-requires : goal.sources_of-requires
-sources_of-requires g c = rw c.deref.ensures.value (slots_over _ _ c.in_ok-classes.ensures.classes)
-
-pub fitting_rows-requires-clause-columns : goal.fitting_rows-requires-clause-columns
-fitting_rows-requires-clause-columns g c = rw (c.deref-2.ensures.value, ← c.requires.arity)
-    c.in_ok-classes.ensures.places.within
-
-pub fitting_rows-requires-clause-sources : goal.fitting_rows-requires-clause-sources
-fitting_rows-requires-clause-sources g c =
-    let same = ap length c.deref.ensures.value ∙ sym c.in_ok-classes.ensures.places.len
-    ∙ sym (ap length c.deref-2.ensures.value) in
-    rw c.deref-3.ensures.value
-    (subst (λ n. All (IsWithin n) c.in_ok-sources.sources.items) same c.in_ok-sources.ensures.within)
-
-pub fitting_rows-requires-clause-few : goal.fitting_rows-requires-clause-few
-fitting_rows-requires-clause-few g c =
-    omega (
-      arith,
-      ap length c.deref-2.ensures.value,
-      c.in_ok-classes.ensures.places.len,
-      few_classes c.in_ok-classes.classes.items 64
-          (rising_distinct _ c.in_ok-classes.ensures.classes.rising) c.in_ok-classes.ensures.below,
-    )
-
 pub new-requires-clause-arity : goal.new-requires-clause-arity
-new-requires-clause-arity g c = c.in_ok-kept.ensures.arity ∙ ap length c.deref-2.ensures.value
-    ∙ c.in_ok-classes.ensures.places.len
+new-requires-clause-arity g c =
+    let are = subst (λ o. IfSome o (λ classes. AreRisingClasses c.args.slots.now classes.items)) c.in-Some.is
+    c.in_ok-classes.ensures.classes in
+    ap (λ (t : Rows). t.arity) c.in_ok-copied-in-Some.ensures.same ∙ sym c.requires.arity
+    ∙ rising_many c.args.slots.now c.in-Some.classes.items are
 
-pub new-requires-clause-distinct : goal.new-requires-clause-distinct
-new-requires-clause-distinct g c = rising_distinct _ c.in_ok-classes.ensures.classes.rising
+pub returns-in_ok-copied-in-Some-clause-classes : goal.returns-in_ok-copied-in-Some-clause-classes
+returns-in_ok-copied-in-Some-clause-classes g c =
+    let are = subst (λ o. IfSome o (λ classes. AreRisingClasses c.args.slots.now classes.items)) c.in-Some.is
+    c.in_ok-classes.ensures.classes in
+    rw c.new-in-Some.ensures (rising_are c.args.slots.now c.in-Some.classes.items are)
 
-pub new-requires-clause-rows : goal.new-requires-clause-rows
-new-requires-clause-rows g c =
-    subst (λ n. AreRows n c.in_ok-kept.kept.rows)
-    (ap length c.deref-2.ensures.value ∙ c.in_ok-classes.ensures.places.len) c.in_ok-kept.ensures.rows
-
-pub returns-clause-rows : goal.returns-clause-rows
-returns-clause-rows g c =
-    selected_made c.args.table.now.rows _ c.args.slots.now c.in_ok-classes.classes.items
-    c.in_ok-classes.columns.items _ _ c.in_ok-sources.sources.items _ c.in_ok-kept.kept
-    c.in_ok-classes.ensures.places.values c.deref.ensures.value c.in_ok-sources.ensures.values
-    c.deref-2.ensures.value c.deref-3.ensures.value
-    c.in_ok-kept.ensures.same c.new.ensures
+pub returns-in_ok-copied-in-Some-clause-rows : goal.returns-in_ok-copied-in-Some-clause-rows
+returns-in_ok-copied-in-Some-clause-rows g c =
+    let are = subst (λ o. IfSome o (λ classes. AreRisingClasses c.args.slots.now classes.items)) c.in-Some.is
+    c.in_ok-classes.ensures.classes in
+    rising_selected c.args.table.now.rows c.args.slots.now c.in-Some.classes.items
+    c.in_ok-copied-in-Some.field-0 c.new-in-Some.result are
+    (ap (λ (t : Rows). t.rows) c.in_ok-copied-in-Some.ensures.same) c.new-in-Some.ensures

@@ -8,14 +8,14 @@ use Rattle.pl_join.proofs.selection.tests_of.Goals.{then-not-is_column+in_ok-pus
 pub loop-column-preserved : goal.loop-column-preserved
 loop-column-preserved c = elim c.if-not-is_column.branch [
   | then-not-is_column+in_ok-push w ↦ record {
-    within = rw (w.tests-is, w.in_ok-push.ensures.items)
+    within = rw (w.tests-is, w.in_ok-push.ensures.ok)
         (All-push (IsTestOf (length c.args.sources.now)) _ _ c.loop-column.invariant.within
         (record {
           column = c.loop-column-test.true;
           source = c.source_through-source.ensures.within _
               c.requires.columns;
         }));
-    tests = λ row l. rw (w.tests-is, w.in_ok-push.ensures.items)
+    tests = λ row l. rw (w.tests-is, w.in_ok-push.ensures.ok)
         (test_more _ _ row (picked c.args.columns.now row) c.args.sources.now c.loop-column.column _
         (omega arith) c.loop-column-test.true refl
         (c.source_through-source.ensures.value row) (c.loop-column.invariant.tests row l));

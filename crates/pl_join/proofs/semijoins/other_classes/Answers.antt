@@ -7,7 +7,7 @@ use Rattle.pl_join.proofs.semijoins.other_classes.Goals.{then-not-has+in_ok-push
 
 pub loop-class-preserved : goal.loop-class-preserved
 loop-class-preserved c = elim c.if-not-has.branch [
-  | then-not-has+in_ok-push w ↦ rw (w.rest-is, w.in_ok-push.ensures.items)
+  | then-not-has+in_ok-push w ↦ rw (w.rest-is, w.in_ok-push.ensures.ok)
       (number_kept (λ k. not (has_class c.args.others.now k)) c.args.classes.now _ _ c.loop-class-test.true
       (ap not (sym c.has.ensures ∙ w.if-not-has.true)) c.loop-class.invariant)
   | else-not-has w ↦ rw w.rest-is

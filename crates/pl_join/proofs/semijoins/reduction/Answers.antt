@@ -1,4 +1,4 @@
-use Rattle.std.proofs.Common.{◌≢◌, true, length, All, Contains, ap, sym, subst, ◌∙◌, Option, IfSome, IfNone}
+use Rattle.std.proofs.Common.{◌≢◌, length, All, Contains, ap, sym, subst, ◌∙◌, Option, IfSome, IfNone}
 use Rattle.std.proofs.lemmas.List.Kept.{AllPairs-filter}
 use Rattle.std.proofs.lemmas.Option.{IfSome_then}
 use Rattle.std.proofs.lemmas.Result.{IfOk-weaker}
@@ -15,7 +15,7 @@ pub reduced-requires : goal.reduced-requires
 reduced-requires g c =
     let shared = chosen_is shared_with c.args.by.now.classes c.args.keep.now.classes _ _ _ _
     c.classes-classes.ensures.classes c.classes.ensures.classes c.in_ok-shared.ensures
-    c.as_slice-shared.ensures.value in
+    c.as_slice-shared.ensures in
     let same = (bytes_eq-Decides c.as_slice-shared.result.now c.classes-classes.result.now).0
     (sym c.eq.ensures ∙ c.if-eq.true) in
     subst (All (Contains c.args.keep.now.classes)) (sym shared ∙ same ∙ c.classes-classes.ensures.classes)
@@ -25,7 +25,7 @@ pub returns-then-eq-clause-rows : goal.returns-then-eq-clause-rows
 returns-then-eq-clause-rows g c =
     let shared = chosen_is shared_with c.args.by.now.classes c.args.keep.now.classes _ _ _ _
     c.classes-classes.ensures.classes c.classes.ensures.classes c.in_ok-shared.ensures
-    c.as_slice-shared.ensures.value in
+    c.as_slice-shared.ensures in
     let same = (bytes_eq-Decides c.as_slice-shared.result.now c.classes-classes.result.now).0
     (sym c.eq.ensures ∙ c.if-eq.true) in
     let step = λ (kept : ClassRows). semijoined_by c.args.keep.now c.args.by.now c.args.by.now kept
@@ -38,7 +38,7 @@ pub returns-then-eq-clause-same : goal.returns-then-eq-clause-same
 returns-then-eq-clause-same g c =
     let shared = chosen_is shared_with c.args.by.now.classes c.args.keep.now.classes _ _ _ _
     c.classes-classes.ensures.classes c.classes.ensures.classes c.in_ok-shared.ensures
-    c.as_slice-shared.ensures.value in
+    c.as_slice-shared.ensures in
     let same = (bytes_eq-Decides c.as_slice-shared.result.now c.classes-classes.result.now).0
     (sym c.eq.ensures ∙ c.if-eq.true) in
     let step = semijoined_by c.args.keep.now c.args.by.now c.args.by.now c.args.keep.now
@@ -52,7 +52,7 @@ pub project-requires-clause-held : goal.project-requires-clause-held
 project-requires-clause-held g c =
     let shared = chosen_is shared_with c.args.by.now.classes c.args.keep.now.classes _ _ _ _
     c.classes-classes.ensures.classes c.classes.ensures.classes c.in_ok-shared.ensures
-    c.as_slice-shared.ensures.value in
+    c.as_slice-shared.ensures in
     subst (All (Contains c.args.by.now.classes)) (sym shared)
     (shared_in c.args.by.now.classes c.args.keep.now.classes)
 
@@ -60,7 +60,7 @@ pub project-requires-clause-distinct : goal.project-requires-clause-distinct
 project-requires-clause-distinct g c =
     let shared = chosen_is shared_with c.args.by.now.classes c.args.keep.now.classes _ _ _ _
     c.classes-classes.ensures.classes c.classes.ensures.classes c.in_ok-shared.ensures
-    c.as_slice-shared.ensures.value in
+    c.as_slice-shared.ensures in
     subst AreDistinct (sym shared)
     (AllPairs-filter (λ a b. a ≢ b) (λ k. has_class c.args.keep.now.classes k) c.args.by.now.classes
     c.classes-classes.ensures.relation.distinct)
@@ -69,7 +69,7 @@ pub reduced-requires-2 : goal.reduced-requires-2
 reduced-requires-2 g c =
     let shared = chosen_is shared_with c.args.by.now.classes c.args.keep.now.classes _ _ _ _
     c.classes-classes.ensures.classes c.classes.ensures.classes c.in_ok-shared.ensures
-    c.as_slice-shared.ensures.value in
+    c.as_slice-shared.ensures in
     subst (All (Contains c.args.keep.now.classes)) (sym (c.in_ok-projected.ensures.classes ∙ shared))
     (shared_held c.args.by.now.classes c.args.keep.now.classes)
 
@@ -77,7 +77,7 @@ pub returns-clause-rows : goal.returns-clause-rows
 returns-clause-rows g c =
     let shared = chosen_is shared_with c.args.by.now.classes c.args.keep.now.classes _ _ _ _
     c.classes-classes.ensures.classes c.classes.ensures.classes c.in_ok-shared.ensures
-    c.as_slice-shared.ensures.value in
+    c.as_slice-shared.ensures in
     let step = λ (kept : ClassRows). semijoined_by c.args.keep.now c.args.by.now c.in_ok-projected.projected
     kept (c.in_ok-projected.ensures.classes ∙ shared) c.in_ok-projected.ensures.rows in
     IfOk-weaker _ (λ (r : Option ClassRows). IfSome r (IsJoinOf c.args.keep.now c.in_ok-projected.projected))
@@ -88,7 +88,7 @@ pub returns-clause-same : goal.returns-clause-same
 returns-clause-same g c =
     let shared = chosen_is shared_with c.args.by.now.classes c.args.keep.now.classes _ _ _ _
     c.classes-classes.ensures.classes c.classes.ensures.classes c.in_ok-shared.ensures
-    c.as_slice-shared.ensures.value in
+    c.as_slice-shared.ensures in
     let step = semijoined_by c.args.keep.now c.args.by.now c.in_ok-projected.projected c.args.keep.now
     (c.in_ok-projected.ensures.classes ∙ shared) c.in_ok-projected.ensures.rows in
     IfOk-weaker _
@@ -107,7 +107,7 @@ pub returns-then-is_empty-3-clause-same : goal.returns-then-is_empty-3-clause-sa
 returns-then-is_empty-3-clause-same g c =
     let shared = chosen_is shared_with c.args.by.now.classes c.args.keep.now.classes _ _ _ _
     c.classes-classes.ensures.classes c.classes.ensures.classes c.in_ok-shared.ensures
-    c.as_slice-shared.ensures.value in
+    c.as_slice-shared.ensures in
     all_kept_by c.args.keep.now c.args.by.now c.as_slice-shared.result.now c.table-2.result.now
     c.is_empty-3.result c.is_empty-2.result c.classes-classes.ensures.relation shared c.is_empty-3.ensures
     c.if-is_empty-3.true
@@ -117,7 +117,7 @@ pub returns-then-eq-clause-apart : goal.returns-then-eq-clause-apart
 returns-then-eq-clause-apart g c apart =
     let shared = chosen_is shared_with c.args.by.now.classes c.args.keep.now.classes _ _ _ _
     c.classes-classes.ensures.classes c.classes.ensures.classes c.in_ok-shared.ensures
-    c.as_slice-shared.ensures.value in
+    c.as_slice-shared.ensures in
     absurd (not_apart c.args.keep.now c.args.by.now c.as_slice-shared.result.now c.is_empty-3.result shared
     c.is_empty-3.ensures c.if-is_empty-3.false apart)
 
@@ -125,7 +125,7 @@ pub returns-in_err-projected-clause-apart : goal.returns-in_err-projected-clause
 returns-in_err-projected-clause-apart g c apart =
     let shared = chosen_is shared_with c.args.by.now.classes c.args.keep.now.classes _ _ _ _
     c.classes-classes.ensures.classes c.classes.ensures.classes c.in_ok-shared.ensures
-    c.as_slice-shared.ensures.value in
+    c.as_slice-shared.ensures in
     absurd (not_apart c.args.keep.now c.args.by.now c.as_slice-shared.result.now c.is_empty-3.result shared
     c.is_empty-3.ensures c.if-is_empty-3.false apart)
 
@@ -133,6 +133,6 @@ pub returns-clause-apart : goal.returns-clause-apart
 returns-clause-apart g c apart =
     let shared = chosen_is shared_with c.args.by.now.classes c.args.keep.now.classes _ _ _ _
     c.classes-classes.ensures.classes c.classes.ensures.classes c.in_ok-shared.ensures
-    c.as_slice-shared.ensures.value in
+    c.as_slice-shared.ensures in
     absurd (not_apart c.args.keep.now c.args.by.now c.as_slice-shared.result.now c.is_empty-3.result shared
     c.is_empty-3.ensures c.if-is_empty-3.false apart)

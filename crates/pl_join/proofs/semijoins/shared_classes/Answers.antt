@@ -8,7 +8,7 @@ use Rattle.pl_join.proofs.semijoins.shared_classes.Goals.{then-has+in_ok-push, e
 
 pub loop-class-preserved : goal.loop-class-preserved
 loop-class-preserved c = elim c.if-has.branch [
-  | then-has+in_ok-push w ↦ rw (w.shared-is, w.in_ok-push.ensures.items)
+  | then-has+in_ok-push w ↦ rw (w.shared-is, w.in_ok-push.ensures.ok)
       (number_kept (λ k. has_class c.args.others.now k) c.args.classes.now _ _ c.loop-class-test.true
       (sym c.has.ensures ∙ w.if-has.true) c.loop-class.invariant)
   | else-has w ↦ rw w.shared-is

@@ -8,12 +8,12 @@ use Rattle.pl_join.proofs.source.sources_of.Goals as goal
 
 pub loop-slot-preserved : goal.loop-slot-preserved
 loop-slot-preserved c = record {
-  len = rw c.in_ok-push.ensures.items
+  len = rw c.in_ok-push.ensures.ok
       (omega (arith, length_push c.loop-slot.sources.items c.source_of.result, c.loop-slot.invariant.len));
-  within = rw c.in_ok-push.ensures.items
+  within = rw c.in_ok-push.ensures.ok
       (All-push (IsWithin (length c.args.classes.now)) _ _ c.loop-slot.invariant.within
       c.source_of.ensures.within);
-  values = λ f. rw c.in_ok-push.ensures.items
+  values = λ f. rw c.in_ok-push.ensures.ok
       (sources_more _ _ _ _ _ _ f c.loop-slot-test.true (c.loop-slot.invariant.values f)
       (c.source_of.ensures.value f));
 }

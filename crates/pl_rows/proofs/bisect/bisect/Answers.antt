@@ -18,7 +18,8 @@ loop-low-preserved-then-is_before c = record {
   in_order = omega arith;
   from = omega arith;
   to = omega arith;
-  narrowed = narrowed_up (takes_equal c.args.bound) c.args.prefix.now _ _ _ _ _ c.requires.ascending c.row_at.ensures.row (sym c.if-is_before.ensures) c.loop-low.invariant.narrowed;
+  narrowed = narrowed_up (takes_equal c.args.bound) c.args.prefix.now _ _ _ _ _ c.requires.ascending
+      c.row_at.ensures.row (sym c.if-is_before.ensures) c.loop-low.invariant.narrowed;
 }
 
 pub loop-low-preserved : goal.loop-low-preserved
@@ -27,7 +28,8 @@ loop-low-preserved c = record {
   in_order = omega arith;
   from = omega arith;
   to = omega arith;
-  narrowed = narrowed_down (takes_equal c.args.bound) c.args.prefix.now _ _ _ _ _ c.requires.ascending c.row_at.ensures.row (sym c.if-is_before.ensures) c.loop-low.invariant.narrowed;
+  narrowed = narrowed_down (takes_equal c.args.bound) c.args.prefix.now _ _ _ _ _ c.requires.ascending
+      c.row_at.ensures.row (sym c.if-is_before.ensures) c.loop-low.invariant.narrowed;
 }
 
 pub returns-clause-narrowed : goal.returns-clause-narrowed

@@ -9,7 +9,8 @@ invariant-loop-low l = record {
   in_order : l.low ≤ l.high;
   from : l.fn.low ≤ l.low;
   to : l.high ≤ l.fn.high;
-  narrowed : IsNarrowed (comes_before (takes_equal l.bound) l.prefix) (rows_of l.arity l.count l.flat) l.low l.high;
+  narrowed : IsNarrowed (comes_before (takes_equal l.bound) l.prefix) (rows_of l.arity l.count l.flat) l.low
+      l.high;
 }
 
 abbrev pub decreases-loop-low : goal.decreases-loop-low

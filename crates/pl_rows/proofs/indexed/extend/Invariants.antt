@@ -5,7 +5,8 @@ abbrev pub invariant-loop-starts : goal.invariant-loop-starts
 invariant-loop-starts l = record {
   grows : length l.fn.starts.items ≤ length l.starts.items;
   room : length l.starts.items ≤ max l.len (length l.fn.starts.items);
-  items : l.starts.items ≡ l.fn.starts.items ++ replicate (length l.starts.items - length l.fn.starts.items) l.value;
+  items : l.starts.items ≡ l.fn.starts.items ++ replicate (length l.starts.items - length l.fn.starts.items)
+      l.value;
 }
 
 abbrev pub decreases-loop-starts : goal.decreases-loop-starts

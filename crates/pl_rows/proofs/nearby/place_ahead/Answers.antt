@@ -4,11 +4,13 @@ use Rattle.pl_rows.proofs.nearby.place_ahead.Goals as goal
 
 pub bisect-requires-clause-narrowed : goal.bisect-requires-clause-narrowed
 bisect-requires-clause-narrowed c =
-    narrowed_down false c.args.row.now _ _ _ _ _ c.requires.ascending c.row_at.ensures.row (sym c.is_before.ensures ∙ c.if-not-is_before.true) c.loop-stride.invariant.narrowed
+    narrowed_down false c.args.row.now _ _ _ _ _ c.requires.ascending c.row_at.ensures.row
+    (sym c.is_before.ensures ∙ c.if-not-is_before.true) c.loop-stride.invariant.narrowed
 
 pub loop-stride-preserved : goal.loop-stride-preserved
 loop-stride-preserved c = record {
   within = omega arith;
   small = omega arith;
-  narrowed = narrowed_up false c.args.row.now _ _ _ _ _ c.requires.ascending c.row_at.ensures.row (sym c.is_before.ensures ∙ c.if-not-is_before.false) c.loop-stride.invariant.narrowed;
+  narrowed = narrowed_up false c.args.row.now _ _ _ _ _ c.requires.ascending c.row_at.ensures.row
+      (sym c.is_before.ensures ∙ c.if-not-is_before.false) c.loop-stride.invariant.narrowed;
 }

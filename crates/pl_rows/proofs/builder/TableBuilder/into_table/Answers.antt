@@ -8,4 +8,5 @@ returns-clause-same c = made-same _ _ _ _ _ c.self.view_is c.from_rows.ensures.s
 
 pub returns-clause-most : goal.returns-clause-most
 returns-clause-most c =
-    subst (λ n. IfOk c.from_rows.result (λ (t : Rows). length t.rows ≤ n)) (length-view _ _ _ _ c.self.view_is) c.from_rows.ensures.most
+    subst (λ n. IfOk c.from_rows.result (λ (t : Rows). length t.rows ≤ n))
+    (length-view _ _ _ _ c.self.view_is) c.from_rows.ensures.most

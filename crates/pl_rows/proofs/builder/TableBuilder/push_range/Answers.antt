@@ -9,5 +9,6 @@ overflow_add-self c = omega (arith, c.requires.few, length-view _ _ _ _ c.self.v
 pub returns-clause-rows : goal.returns-clause-rows
 returns-clause-rows c =
     appended _ _ _ _ _ _ _ _ c.self.view_is c.self.invariant c.in_ok-extend_from_slice.ensures.items
-    (subst (λ k. rows_of k (c.args.range.to - c.args.range.from) c.part.result.now ≡ slice_range c.args.table.now.rows c.args.range.from c.args.range.to)
+    (subst (λ k. rows_of k (c.args.range.to - c.args.range.from) c.part.result.now ≡ slice_range
+    c.args.table.now.rows c.args.range.from c.args.range.to)
     (c.requires.arity ∙ sym (ap (λ (v : Rows). v.arity) c.self.view_is)) c.part.ensures.rows)

@@ -6,7 +6,8 @@ use Rattle.pl_rows.proofs.table.Table.from_rows.Goals as goal
 
 pub returns-then-are_ascending-clause-rows : goal.returns-then-are_ascending-clause-rows
 returns-then-are_ascending-clause-rows c =
-    subst (λ flat. AreRows c.args.arity (rows_of c.args.arity c.args.rows flat)) c.deref.ensures.value (record {
+    subst (λ flat. AreRows c.args.arity (rows_of c.args.arity c.args.rows flat))
+    c.deref.ensures.value (record {
       width = width-rows_of _ _ _ (c.deref.ensures.len ∙ c.requires);
       ascending = c.are_ascending.ensures.0 c.if-are_ascending.true;
     })
@@ -25,7 +26,8 @@ pub returns-clause-same : goal.returns-clause-same
 returns-clause-same c row = rw c.deref-2.ensures.value at (c.in_ok-count.ensures.same row)
 
 pub returns-then-are_ascending-clause-most : goal.returns-then-are_ascending-clause-most
-returns-then-are_ascending-clause-most c = omega (arith, length-rows_of c.args.arity c.args.rows c.args.flat.items)
+returns-then-are_ascending-clause-most c =
+    omega (arith, length-rows_of c.args.arity c.args.rows c.args.flat.items)
 
 pub returns-clause-most : goal.returns-clause-most
 returns-clause-most c =
