@@ -8,7 +8,7 @@ use Rattle.std.proofs.lemmas.Bool.{cases_Bool, cases_lt, false≢true}
 use Rattle.std.proofs.lemmas.Bool.Decides.{nat_tests}
 use Rattle.std.proofs.lemmas.List.{append_assoc, append-nil, take-append-drop, length-append, length-map}
 use Rattle.std.proofs.lemmas.List.{length-drop, length-take-le, map-append, take_at, drop_at, drop_all}
-use Rattle.std.proofs.lemmas.List.{drop_more, nil_from_length, get_or-reverse, length-reverse}
+use Rattle.std.proofs.lemmas.List.{drop_more, nil_from_length}
 use Rattle.std.proofs.lemmas.List.{get_or_append_left}
 use Rattle.std.proofs.lemmas.List.Concat.{flat_map-append}
 use Rattle.std.proofs.lemmas.List.Elements.{All-contains, All-append, All-head, All-tail, All-cons, All-nil}
@@ -20,14 +20,16 @@ use Rattle.pl_join.specs.Relation.{Assignment, AreDistinct, IsRelation, Holds, H
 use Rattle.pl_join.proofs.Assignments.{value_of, restored}
 use Rattle.pl_join.proofs.Members.{Contains-filter, Contains-from_filter}
 use Rattle.pl_reduce.specs.Nodes.{Node, ReducedJoin, relations_of, node_at, key_classes, new_classes}
+use Rattle.pl_reduce.specs.Layout.{place_in, brings}
 use Rattle.pl_reduce.specs.Walk.{walk_of, classes_along, GoesOn}
 use Rattle.pl_reduce.specs.Reduced.{IsReduced, JoinHolds}
 use Rattle.pl_reduce.proofs.Walks.{from_walked, walk_holds, join_holds, none_held}
 use Rattle.pl_cursor.specs.Answers.{IsStage, AreStages, key_of, matching, grown, answers, IsAnswer}
-use Rattle.pl_cursor.specs.Stages.{place_in, brings, stage_of, stages_from, stages_of}
+use Rattle.pl_cursor.specs.Stages.{stage_of, stages_from, stages_of}
 use Rattle.pl_cursor.specs.Kept.{NeverEnds}
 use Rattle.pl_cursor.specs.Cursor.{IsAnswerOf}
-use Rattle.pl_cursor.proofs.Places.{place_within, place_append, value_at_place}
+use Rattle.pl_reduce.proofs.Places.{place_within, place_append}
+use Rattle.pl_cursor.proofs.Places.{value_at_place}
 use Rattle.pl_cursor.proofs.Chains.{members}
 use Rattle.pl_cursor.proofs.Fronts.{chain-length, length-grown_matching}
 
@@ -175,26 +177,6 @@ follow join is before (node ∷ after) from e l =
 pub stages_laid : (join : ReducedJoin) → IsReduced join → AreStages (stages_of join) 0 (length join.classes)
 unfolding stages_of
 stages_laid join is = follow join is [] (walk_of join.nodes) 0 refl refl
-
--- ---- the nodes in the order of the walk
-
-pub walked_later : (nodes : List Node) (step : ℕ) → 0 < step → step < length nodes
-    → drop step (walk_of nodes) ≡ node_at nodes (length nodes - step) ∷ drop (step + 1) (walk_of nodes)
-walked_later [] step l m = absurd (omega arith)
-walked_later (root ∷ others) zero l m = absurd (omega arith)
-walked_later (root ∷ others) (suc k) l m =
-    let none : Node = record { relation = record { classes = []; rows = [] }; width = 0 } in
-    let within : k < length (reverse others) = omega (arith, length-reverse others) in
-    let there : get_or (reverse others) k none ≡ get_or others (length others - 1 - k) none =
-    get_or-reverse others k none (omega arith) in
-    let number : suc (length others) - suc k ≡ suc (length others - 1 - k) = omega arith in
-    let here : get_or (root ∷ others) (suc (length others) - suc k) none ≡ get_or others
-    (length others - 1 - k) none = ap (λ n. get_or (root ∷ others) n none) number in
-    let count : suc k + 1 ≡ suc (k + 1) = omega arith in
-    drop_more (reverse others) k none within
-    ∙ (λ i. (there ∙ sym here) i ∷ drop (k + 1) (reverse others))
-    ∙ ap (λ n. node_at (root ∷ others) (suc (length others) - suc k) ∷ drop n (root ∷ reverse others))
-    (sym count)
 
 -- ---- no choice of rows ends before an answer
 

@@ -14,13 +14,15 @@ use Rattle.pl_join.proofs.Assignments.{few_classes}
 use Rattle.pl_join.proofs.Members.{Contains-filter, Contains-from_filter}
 use Rattle.pl_reduce.specs.Nodes.{Node, ReducedJoin, node_at}
 use Rattle.pl_reduce.specs.Reduced.{IsReduced}
-use Rattle.pl_cursor.specs.declared.layout.Stop.{Stop}
+use Rattle.pl_reduce.specs.Layout.{place_in, stop_at}
+use Rattle.pl_reduce.specs.declared.layout.Stop.{Stop}
 use Rattle.pl_cursor.specs.declared.layout.Layout.{Layout}
 use Rattle.pl_cursor.specs.Answers.{Stage, IsStage, AreStages, key_of, stage_at}
-use Rattle.pl_cursor.specs.Stages.{place_in, stage_of, stages_of}
-use Rattle.pl_cursor.specs.Kept.{IsStop, IsLayout, IsLookedUp, IsFirst, stop_at, written}
+use Rattle.pl_cursor.specs.Stages.{stage_of, stages_of}
+use Rattle.pl_cursor.specs.Kept.{IsStop, IsLayout, IsLookedUp, IsFirst, written}
 use Rattle.pl_cursor.proofs.Ranges.{range_none}
-use Rattle.pl_cursor.proofs.Places.{place_within, key_read}
+use Rattle.pl_reduce.proofs.Places.{place_within}
+use Rattle.pl_cursor.proofs.Places.{key_read}
 use Rattle.pl_cursor.proofs.Following.{stages_at, before-width}
 use Rattle.pl_cursor.proofs.Links.{passing, length-stage_keys, stages_laid}
 
@@ -32,8 +34,8 @@ pub record IsAtStop (join : ReducedJoin) (layout : Layout) (answer : List ℕ) (
   pub few : length node.relation.classes ≤ 64
   pub index : stop.width ≡ node.width
   pub below : All (λ c. c < 64) (take stop.width node.relation.classes)
-  pub within : All (λ c. slice_index layout.places c < 64) (take stop.width node.relation.classes)
-  pub key : map (λ c. slice_index answer (slice_index layout.places c))
+  pub within : All (λ c. slice_index layout.places.now c < 64) (take stop.width node.relation.classes)
+  pub key : map (λ c. slice_index answer (slice_index layout.places.now c))
       (take stop.width node.relation.classes) ≡ key_of stage.keys (take stage.from answer)
   pub keys : length stage.keys ≡ stop.width
   pub rows : stage.rows ≡ node.relation.rows
@@ -56,11 +58,11 @@ node_classes join is node h =
     (Contains-get_or node.relation.classes k d l))).0
 
 pub at_stop : (join : ReducedJoin) (layout : Layout) (t : ℕ) (answer : List ℕ) → IsLayout join layout
-    → t < layout.count →
-    IsAtStop join layout answer (stage_at (stages_of join) t) (stop_at layout.stops t)
-    (node_at join.nodes (stop_at layout.stops t).node)
+    → t < length layout.stops.now →
+    IsAtStop join layout answer (stage_at (stages_of join) t) (stop_at layout.stops.now t)
+    (node_at join.nodes (stop_at layout.stops.now t).node)
 at_stop join layout t answer is l =
-    let stop : Stop = stop_at layout.stops t in
+    let stop : Stop = stop_at layout.stops.now t in
     let node : Node = node_at join.nodes stop.node in
     let stage : Stage = stage_at (stages_of join) t in
     let it : IsStop join stage stop = is.stops t l in
@@ -73,9 +75,10 @@ at_stop join layout t answer is l =
     let classes : All (Contains join.classes) (take node.width node.relation.classes) =
     All-take (Contains join.classes) node.width node.relation.classes
     (node_classes join is.reduced node among) in
-    let places : All (λ c. slice_index layout.places c ≡ place_in join.classes c)
+    let places : All (λ c. slice_index layout.places.now c ≡ place_in join.classes c)
     (take node.width node.relation.classes) =
-    All-weaker (Contains join.classes) (λ c. slice_index layout.places c ≡ place_in join.classes c) is.places
+    All-weaker (Contains join.classes) (λ c. slice_index layout.places.now c ≡ place_in join.classes c)
+    is.places
     (take node.width node.relation.classes) classes in
     let (brought, kind, rest) = stages_at (stages_of join) 0 (length join.classes) t
     (stages_laid join is.reduced) (omega (arith, is.count)) in
@@ -89,12 +92,12 @@ at_stop join layout t answer is l =
       few = few_classes node.relation.classes 64 relation.distinct relation.below;
       index = it.width;
       below = rw it.width (All-take (λ c. c < 64) node.width node.relation.classes relation.below);
-      within = rw it.width (All-weaker (Contains join.classes) (λ c. slice_index layout.places c < 64)
+      within = rw it.width (All-weaker (Contains join.classes) (λ c. slice_index layout.places.now c < 64)
           (λ c h. (let there = is.places c h in let near = place_within join.classes c h in let few =
           narrow_join join is.reduced in omega (arith, there, near, few)))
           (take node.width node.relation.classes) classes);
       key = rw it.width
-          (key_read join.classes layout.places answer stage.from (take node.width node.relation.classes)
+          (key_read join.classes layout.places.now answer stage.from (take node.width node.relation.classes)
           places early ∙ ap (λ ks. key_of ks (take stage.from answer)) (sym keys_same));
       keys = ap length keys_same ∙ length-stage_keys join.classes stop.from node wide ∙ sym it.width;
       rows = ap (λ (s : Stage). s.rows) it.is;
@@ -105,8 +108,9 @@ at_stop join layout t answer is l =
 
 -- what a row brings has room among the values of the classes
 pub row_fits : (join : ReducedJoin) (layout : Layout) (t place : ℕ) (row : List ℕ) → IsLayout join layout
-    → t < layout.count → slice_get (stage_at (stages_of join) t).rows place ≡ Some row →
-    (stop_at layout.stops t).from + (length row - (stop_at layout.stops t).width) ≤ length join.classes
+    → t < length layout.stops.now → slice_get (stage_at (stages_of join) t).rows place ≡ Some row →
+    (stop_at layout.stops.now t).from + (length row - (stop_at layout.stops.now t).width) ≤ length
+    join.classes
 row_fits join layout t place row is l at =
     let stage : Stage = stage_at (stages_of join) t in
     let (brought, kind, rest) = stages_at (stages_of join) 0 (length join.classes) t
@@ -186,12 +190,12 @@ pub record Brings (join : ReducedJoin) (t brought : ℕ) : Type 0 where
       (length join.classes)
 
 pub stop_brings : (join : ReducedJoin) (layout : Layout) (t arity : ℕ) (answer : List ℕ)
-    → IsLayout join layout → t < layout.count
-    → arity ≡ length (node_at join.nodes (stop_at layout.stops t).node).relation.classes →
+    → IsLayout join layout → t < length layout.stops.now
+    → arity ≡ length (node_at join.nodes (stop_at layout.stops.now t).node).relation.classes →
     IsTrue (list_any
     (begins_with (key_of (stage_at (stages_of join) t).keys
     (take (stage_at (stages_of join) t).from answer))) (stage_at (stages_of join) t).rows) →
-    Brings join t (arity - (stop_at layout.stops t).width)
+    Brings join t (arity - (stop_at layout.stops.now t).width)
 stop_brings join layout t arity answer is l classes any =
     let stage : Stage = stage_at (stages_of join) t in
     let there = at_stop join layout t answer is l in
@@ -200,11 +204,11 @@ stop_brings join layout t arity answer is l classes any =
     let (row, held, begins) = passing (begins_with (key_of stage.keys (take stage.from answer))) stage.rows
     any in
     let wide = All-contains
-    (λ r. length r ≡ length (node_at join.nodes (stop_at layout.stops t).node).relation.classes)
+    (λ r. length r ≡ length (node_at join.nodes (stop_at layout.stops.now t).node).relation.classes)
     stage.rows row there.wide held in
     let long = All-contains (λ r. length r ≡ length stage.keys + brought) stage.rows row kind.rows.width
     held in
-    let same : brought ≡ arity - (stop_at layout.stops t).width =
+    let same : brought ≡ arity - (stop_at layout.stops.now t).width =
     omega (arith, wide, long, there.keys, there.narrow, classes) in
     subst (Brings join t) same (record { kind = kind; rest = rest })
 

@@ -6,24 +6,15 @@ use Rattle.std.specs.List.{list_any}
 use Rattle.pl_rows.specs.Rows.{begins_with, AreRowsOf}
 use Rattle.pl_reduce.specs.Nodes.{ReducedJoin, node_at}
 use Rattle.pl_reduce.specs.Reduced.{IsReduced}
-use Rattle.pl_reduce.specs.Walk.{walk_of}
-use Rattle.pl_cursor.specs.declared.layout.Seen.{Seen}
-use Rattle.pl_cursor.specs.declared.layout.Stop.{Stop}
+use Rattle.pl_reduce.specs.Layout.{place_in, stop_at}
+use Rattle.pl_reduce.specs.declared.layout.Stop.{Stop}
 use Rattle.pl_cursor.specs.declared.layout.Layout.{Layout}
 use Rattle.pl_cursor.specs.declared.position.Position.{Position}
 use Rattle.pl_cursor.specs.declared.narrow.Place.{Place}
 use Rattle.pl_cursor.specs.declared.narrow.Narrowed.{Narrowed}
 use Rattle.pl_cursor.specs.Answers.{Stage, Frame, IsStage, AreStages, IsSought, is_past, key_of, matching}
 use Rattle.pl_cursor.specs.Answers.{grown, answers, stage_at, frame_at, left_in}
-use Rattle.pl_cursor.specs.Stages.{place_in, stage_of, stages_of}
-
--- what is read of the node that is walked at a step
-pub record IsSeen (join : ReducedJoin) (step : ℕ) (seen : Seen) : Type 0 where
-  pub within : seen.node < length join.nodes
-  pub walked : drop step (walk_of join.nodes) ≡ node_at join.nodes seen.node ∷ drop (step + 1)
-      (walk_of join.nodes)
-  pub width : seen.width ≡ (node_at join.nodes seen.node).width
-  pub arity : seen.arity ≡ length (node_at join.nodes seen.node).relation.classes
+use Rattle.pl_cursor.specs.Stages.{stage_of, stages_of}
 
 -- the stop is the one of a stage
 pub record IsStop (join : ReducedJoin) (stage : Stage) (stop : Stop) : Type 0 where
@@ -31,19 +22,18 @@ pub record IsStop (join : ReducedJoin) (stage : Stage) (stop : Stop) : Type 0 wh
   pub width : stop.width ≡ (node_at join.nodes stop.node).width
   pub is : stage ≡ stage_of join.classes stop.from (node_at join.nodes stop.node)
 
--- the stop at a place
-abbrev pub stop_at : List Stop → ℕ → Stop
-stop_at stops t = slice_index_or stops t (record { node = 0; width = 0; from = 0 })
-
 -- the layout is the one of a reduced join: its stages, and where its classes stand
 pub record IsLayout (join : ReducedJoin) (layout : Layout) : Type 0 where
   pub reduced : IsReduced join
-  pub count : layout.count ≡ length (stages_of join)
-  pub few : layout.count ≤ layout.width
+  pub count : length layout.stops.now ≡ length (stages_of join)
+  pub few : length layout.stops.now ≤ layout.width
   pub width : layout.width ≡ length join.classes
   pub narrow : layout.width ≤ 64
-  pub stops : (t : ℕ) → t < layout.count → IsStop join (stage_at (stages_of join) t) (stop_at layout.stops t)
-  pub places : (c : ℕ) → Contains join.classes c → slice_index layout.places c ≡ place_in join.classes c
+  pub stops : (t : ℕ) → t < length layout.stops.now
+      → IsStop join (stage_at (stages_of join) t) (stop_at layout.stops.now t)
+  pub many : length layout.places.now ≡ 64
+  pub places : (c : ℕ) → Contains join.classes c
+      → slice_index layout.places.now c ≡ place_in join.classes c
 
 -- each choice of rows through the stages goes on to an answer
 abbrev pub NeverEnds : List Stage → List ℕ → Type 0

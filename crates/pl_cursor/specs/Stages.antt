@@ -1,17 +1,9 @@
 -- The stages of a reduced join: the nodes of its walk that bring classes.
-use Rattle.std.specs.Prelude.{◌+◌, ◌==◌, ℕ, suc, Bool, cond, nat_lt, List, [], ◌∷◌, length, map}
+use Rattle.std.specs.Prelude.{◌+◌, ℕ, cond, List, [], ◌∷◌, length, map}
 use Rattle.pl_reduce.specs.Nodes.{Node, ReducedJoin, key_classes, new_classes}
 use Rattle.pl_reduce.specs.Walk.{walk_of}
+use Rattle.pl_reduce.specs.Layout.{place_in, brings}
 use Rattle.pl_cursor.specs.Answers.{Stage}
-
--- at which place a class stands
-abbrev pub place_in : List ℕ → ℕ → ℕ
-place_in [] c = 0
-place_in (k ∷ ks) c = cond (k == c) 0 (suc (place_in ks c))
-
--- whether a node has classes that no node walked before it holds
-abbrev pub brings : Node → Bool
-brings node = nat_lt node.width (length node.relation.classes)
 
 -- the stage of a node before which the walk meets so many classes
 abbrev pub stage_of : List ℕ → ℕ → Node → Stage

@@ -29,7 +29,7 @@ use std::sync::ledger::Ledger;
 #[derive(Drop)]
 pub struct Cursor<'r> {
     reduced: &'r Reduced<'r>,
-    layout: Layout,
+    layout: Layout<'r>,
     position: Position,
     ready: bool,
     given: bool,
@@ -50,7 +50,8 @@ impl<'r> Model for Cursor<'r> {
       place = cond c.given (Some (take (length c.reduced.now.classes) c.position.answer)) None;
     } };
 
-    ghost invariant = { λ c. IsLayout c.reduced.now c.layout × IsPosition (stages_of c.reduced.now) c.position };
+    ghost invariant = { λ c. IsLayout c.reduced.now c.layout ×
+        IsPosition (stages_of c.reduced.now) c.position };
 }
 
 impl<'r> Cursor<'r> {
@@ -71,7 +72,7 @@ impl<'r> Cursor<'r> {
                 given: false,
             };
         }
-        if layout.count == 0 {
+        if layout.stops.len() == 0 {
             return Cursor {
                 reduced,
                 layout,
@@ -144,7 +145,8 @@ impl<'r> Cursor<'r> {
     /// It takes at most two probes for each class, and none where it answers None. Mostly it takes one: the
     /// next row of the last stage.
     pub fn next<L: Ledger>(&mut self, steps: &mut Steps<L>) -> Option<&[u32]>
-        ensures* after { sem 𝓛 (Rests self.entry (λ new. IsStep self.old (option_map (λ row. row.now) result) new)) }
+        ensures* after { sem 𝓛 (Rests self.entry
+            (λ new. IsStep self.old (option_map (λ row. row.now) result) new)) }
         ensures none { IfNone result (self.old.left ≡ []) }
         ensures first { IfSome result (λ row. slice_get self.old.left 0 ≡ Some row.now) }
         ensures cost { steps.new ≤ steps.old + 2 * length self.old.join.classes }

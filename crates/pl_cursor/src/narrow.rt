@@ -30,7 +30,7 @@ pub struct Narrowed {
 /// It takes at most three probes for each stage.
 pub fn narrow<L: Ledger>(
     reduced: &Reduced<'_>,
-    layout: &Layout,
+    layout: &Layout<'_>,
     frames: &mut [Frame],
     answer: &[u32],
     steps: &mut Steps<L>,
@@ -41,10 +41,10 @@ pub fn narrow<L: Ledger>(
     requires onward { NeverEnds (stages_of reduced.now) [] }
     ensures narrowed { IsNarrowed (stages_of reduced.now) (length reduced.now.classes) frames.new answer.now
         result }
-    ensures cost { steps.new ≤ steps.old + 3 * layout.now.count }
+    ensures cost { steps.new ≤ steps.old + 3 * length layout.now.stops.now }
     ensures rise { steps.old ≤ steps.new }
 {
-    for t in 0..layout.count {
+    for t in 0..layout.stops.len() {
         let place = place_of(reduced, layout, t, answer, steps);
         frames[t] = place.frame;
         if !place.found {
@@ -55,7 +55,7 @@ pub fn narrow<L: Ledger>(
         }
     }
     Narrowed {
-        depth: layout.count,
+        depth: layout.stops.len(),
         found: true,
     }
 }
@@ -71,13 +71,13 @@ pub struct Place {
 /// at most three probes.
 fn place_of<L: Ledger>(
     reduced: &Reduced<'_>,
-    layout: &Layout,
+    layout: &Layout<'_>,
     t: usize,
     answer: &[u32],
     steps: &mut Steps<L>,
 ) -> Place
     requires layout { IsLayout reduced.now layout.now }
-    requires depth { t < layout.now.count }
+    requires depth { t < length layout.now.stops.now }
     requires answer { length answer.now ≡ 64 }
     requires onward { let stage = stage_at (stages_of reduced.now) t in
         IsTrue (list_any (begins_with (key_of stage.keys (take stage.from answer.now))) stage.rows) }

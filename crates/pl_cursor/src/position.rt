@@ -53,14 +53,15 @@ impl Position {
 #[inline]
 pub fn go_on<L: Ledger>(
     reduced: &Reduced<'_>,
-    layout: &Layout,
+    layout: &Layout<'_>,
     position: &mut Position,
     steps: &mut Steps<L>,
 ) -> bool
     requires layout { IsLayout reduced.now layout.now }
     requires position { IsPosition (stages_of reduced.now) position.old }
     ensures position { IsPosition (stages_of reduced.now) position.new }
-    ensures found { OnTrue result (left_of reduced.now position.old false ≡ left_of reduced.now position.new true) }
+    ensures found { OnTrue result (left_of reduced.now position.old false ≡ left_of
+        reduced.now position.new true) }
     ensures none { OnFalse result (left_of reduced.now position.old false ≡ []) }
     ensures same { OnFalse result (position.new ≡ position.old) }
     ensures cost { OnTrue result (steps.new ≤ steps.old + 2 * length reduced.now.classes) }
@@ -87,7 +88,7 @@ pub fn go_on<L: Ledger>(
         depth,
         steps,
     );
-    position.depth = layout.count;
+    position.depth = layout.stops.len();
     true
 }
 
@@ -116,7 +117,7 @@ fn open_depth(frames: &[Frame], depth: usize) -> usize
 #[inline]
 fn take_row<L: Ledger>(
     reduced: &Reduced<'_>,
-    layout: &Layout,
+    layout: &Layout<'_>,
     frames: &mut [Frame],
     answer: &mut [u32],
     t: usize,
@@ -125,7 +126,7 @@ fn take_row<L: Ledger>(
     requires layout { IsLayout reduced.now layout.now }
     requires frames { length frames.old ≡ 64 }
     requires answer { length answer.old ≡ 64 }
-    requires depth { t < layout.now.count }
+    requires depth { t < length layout.now.stops.now }
     requires open { (frame_at frames.old t).at < (frame_at frames.old t).to }
     requires entered { (s : ℕ) → s < t + 1 → IsEntered (stages_of reduced.now) frames.old answer.old s }
     ensures descends { Descends (stages_of reduced.now) (length reduced.now.classes)
@@ -146,7 +147,7 @@ fn take_row<L: Ledger>(
 /// takes two probes for each stage.
 fn descend<L: Ledger>(
     reduced: &Reduced<'_>,
-    layout: &Layout,
+    layout: &Layout<'_>,
     frames: &mut [Frame],
     answer: &mut [u32],
     depth: usize,
@@ -155,15 +156,16 @@ fn descend<L: Ledger>(
     requires layout { IsLayout reduced.now layout.now }
     requires frames { length frames.old ≡ 64 }
     requires answer { length answer.old ≡ 64 }
-    requires depth { depth ≤ layout.now.count }
-    requires descends { CanDescend (stages_of reduced.now) (length reduced.now.classes) frames.old answer.old depth }
+    requires depth { depth ≤ length layout.now.stops.now }
+    requires descends { CanDescend (stages_of reduced.now) (length reduced.now.classes)
+        frames.old answer.old depth }
     ensures descends { (left : List (List ℕ)) →
         Descends (stages_of reduced.now) (length reduced.now.classes) left frames.old answer.old depth →
         Descends (stages_of reduced.now) (length reduced.now.classes) left frames.new answer.new
-        layout.now.count }
-    ensures cost { steps.new ≡ steps.old + 2 * (layout.now.count - depth) }
+        (length layout.now.stops.now) }
+    ensures cost { steps.new ≡ steps.old + 2 * (length layout.now.stops.now - depth) }
 {
-    for t in depth..layout.count {
+    for t in depth..layout.stops.len() {
         let frame = enter(reduced, layout, t, answer, steps);
         frames[t] = frame;
     }
@@ -172,13 +174,13 @@ fn descend<L: Ledger>(
 /// Takes the first row of a stage that goes on with the answer, in two probes. There is one.
 fn enter<L: Ledger>(
     reduced: &Reduced<'_>,
-    layout: &Layout,
+    layout: &Layout<'_>,
     t: usize,
     answer: &mut [u32],
     steps: &mut Steps<L>,
 ) -> Frame
     requires layout { IsLayout reduced.now layout.now }
-    requires depth { t < layout.now.count }
+    requires depth { t < length layout.now.stops.now }
     requires answer { length answer.old ≡ 64 }
     requires onward { let stage = stage_at (stages_of reduced.now) t in
         IsTrue (list_any (begins_with (key_of stage.keys (take stage.from answer.old))) stage.rows) }
@@ -199,14 +201,14 @@ fn enter<L: Ledger>(
 /// Looks up the rows of a stage that go on with the answer, in one probe. Their key is written.
 pub fn look_up<L: Ledger>(
     reduced: &Reduced<'_>,
-    layout: &Layout,
+    layout: &Layout<'_>,
     t: usize,
     key: &mut [u32],
     answer: &[u32],
     steps: &mut Steps<L>,
 ) -> Range
     requires layout { IsLayout reduced.now layout.now }
-    requires depth { t < layout.now.count }
+    requires depth { t < length layout.now.stops.now }
     requires key { length key.old ≡ 64 }
     requires answer { length answer.now ≡ 64 }
     ensures found { IsLookedUp (stage_at (stages_of reduced.now) t) answer.now key.new result.from result.to }
@@ -214,7 +216,7 @@ pub fn look_up<L: Ledger>(
 {
     let stop = layout.stops[t];
     let classes = reduced.node_classes(stop.node);
-    write_key(key, &classes[..stop.width], &layout.places, answer);
+    write_key(key, &classes[..stop.width], layout.places, answer);
     reduced.indexed(stop.node).find(&key[..stop.width], steps)
 }
 

@@ -15,11 +15,13 @@ use Rattle.pl_reduce.specs.Recipes.{option_at, relations_with, AreFixed}
 use Rattle.pl_reduce.specs.Lent.{lent_of, nodes_with, AreThere}
 use Rattle.pl_reduce.specs.Arranged.{AreArrangedBelow}
 use Rattle.pl_reduce.specs.Reduced.{IsReduced, IsReductionOf}
-use Rattle.pl_reduce.specs.Kept.{node_of}
+use Rattle.pl_reduce.specs.Kept.{node_of, join_of, IsKept}
+use Rattle.pl_reduce.specs.Layout.{LayoutView, IsLayoutFor}
 use Rattle.pl_reduce.specs.Runs.{IsRun}
 use Rattle.pl_reduce.specs.Fixing.{AreLentOf, AreFixedPairs, AreTurnedOf, IsPlan, IsRecipe}
 use Rattle.pl_reduce.proofs.Beginnings.{AreRelationsOf, all_relations, none_lent, there}
 use Rattle.pl_reduce.proofs.Keyings.{are_lent}
+use Rattle.pl_reduce.proofs.Laying.{layout_is}
 use Rattle.pl_reduce.proofs.Wholes.{bare, run_held, run_parents, run_kept, run_columns, run_reduction}
 use Rattle.pl_reduce.proofs.Wholes.{arranged_moved}
 
@@ -82,6 +84,17 @@ done_kept plan fixed given lent classes parents items stored is e run =
     subst (λ os. IsReduced (record { classes = os; nodes = map node_of stored })) (sym e)
     (run_kept plan fixed given lent stored classes parents is.plan_is is.relations is.lent_are run)
 
+-- and its layout is that of the plan
+pub done_whole : (plan : Removal) (fixed given : List (Option ClassRows)) (lent : List (Option KeyedRows))
+    (classes parents : List ℕ) (layout : LayoutView) (stored : List Stored)
+    → IsDone plan fixed given lent classes parents → IsLayoutFor plan layout
+    → IsRun (bare plan) (class_order plan) lent given stored → IsKept layout stored
+done_whole plan fixed given lent classes parents layout stored is laid run = record {
+  reduced = done_kept plan fixed given lent classes parents layout.classes stored is laid.classes run;
+  laid = layout_is plan (join_of layout stored) layout laid refl
+      (run_columns plan fixed given lent stored is.relations is.lent_are run);
+}
+
 pub done_columns : (plan : Removal) (fixed given : List (Option ClassRows)) (lent : List (Option KeyedRows))
     (classes parents items : List ℕ) (stored : List Stored) (join : ReducedJoin)
     → IsDone plan fixed given lent classes parents
@@ -121,6 +134,14 @@ pub given_there : (plan : Removal) (own : List (Option ClassRows)) (root : Class
     → AreOverPlan plan root rest → own ≡ map Some (root ∷ rest) → AreThere [] own
 given_there plan own root rest over e = subst (AreThere []) (sym e)
     (there plan [] (map Some (root ∷ rest)) [] (all_relations plan root rest over) (none_lent plan))
+
+-- the layout of a plan is that of its parts
+pub layout_moved : (plan : Removal) (edges : List ℕ) (ears : List Ear) (core : List ℕ) (layout : LayoutView)
+    → edges ≡ plan.edges → ears ≡ plan.removed → core ≡ plan.core → IsLayoutFor plan layout
+    → IsLayoutFor (record { edges = edges; removed = ears; core = core }) layout
+layout_moved plan edges ears core layout ee er ec is =
+    subst (λ p. IsLayoutFor p layout)
+    (λ i. record { edges = (sym ee) i; removed = (sym er) i; core = (sym ec) i }) is
 
 -- what the parts of a recipe make together
 pub recipe_made : (plan : Removal) (edges : List ℕ) (ears : List Ear)

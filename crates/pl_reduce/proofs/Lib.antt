@@ -1,11 +1,15 @@
 -- for the crates above: fronts of the walk extend to the whole join
 pub mod Walks
+-- and the places of classes, the nodes at the steps of a walk, and its stops
+pub mod Places
+pub mod Stopping
 -- for the functions of this crate
 mod PlanLaws
 mod Lists
 mod Columns
 mod Roots
 mod Arrangements
+mod Ordering
 mod PassLemmas
 mod Emptied
 mod Options
@@ -18,6 +22,7 @@ mod Beginnings
 mod Wholes
 mod Fixations
 mod Keyings
-mod Endings
 mod PlanNodes
 mod EdgeSets
+mod Laying
+mod Endings

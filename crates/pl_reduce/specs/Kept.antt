@@ -3,12 +3,15 @@ use Rattle.std.specs.Prelude.{◌≡◌, ◌<◌, ℕ, List, length, map}
 use Rattle.pl_join.specs.Relation.{ClassRows, IsRelation}
 use Rattle.pl_join.specs.Keyed.{KeyedRows}
 use Rattle.pl_hyper.specs.Ears.{Removal}
-use Rattle.pl_reduce.specs.Nodes.{Node, node_at}
+use Rattle.pl_reduce.specs.Nodes.{Node, ReducedJoin, node_at}
 use Rattle.pl_reduce.specs.Plan.{relation_at}
 use Rattle.pl_reduce.specs.Arranged.{node_for}
 use Rattle.pl_reduce.specs.Reduced.{IsReduced}
+use Rattle.pl_reduce.specs.Layout.{LayoutView, IsLayoutOf}
 use Rattle.pl_reduce.specs.declared.reduced.Stored.{Stored}
 use Rattle.pl_reduce.specs.declared.reduced.Stored.TheVariants.{Own, Lent}
+use Rattle.pl_reduce.specs.declared.reduced.StoredLayout.{StoredLayout}
+use Rattle.pl_reduce.specs.declared.reduced.StoredLayout.TheVariants.{Own as OwnLayout, Lent as LentLayout}
 
 -- the relation of a stored node, with its key
 abbrev pub keyed_of : Stored → KeyedRows
@@ -19,9 +22,18 @@ keyed_of (Lent keyed) = keyed.now
 abbrev pub node_of : Stored → Node
 node_of stored = record { relation = (keyed_of stored).relation; width = (keyed_of stored).width }
 
--- the whole is reduced
-abbrev pub IsKept : List ℕ → List Stored → Type 0
-IsKept classes nodes = IsReduced (record { classes = classes; nodes = map node_of nodes })
+abbrev pub layout_of : StoredLayout → LayoutView
+layout_of (OwnLayout layout) = layout
+layout_of (LentLayout layout) = layout.now
+
+-- the join of stored nodes
+abbrev pub join_of : LayoutView → List Stored → ReducedJoin
+join_of layout nodes = record { classes = layout.classes; nodes = map node_of nodes }
+
+-- the whole is reduced, and its layout is that of the join
+pub record IsKept (layout : LayoutView) (nodes : List Stored) : Type 0 where
+  pub reduced : IsReduced (join_of layout nodes)
+  pub laid : IsLayoutOf (join_of layout nodes) layout
 
 -- the relations are stored as nodes, one after another
 pub record AreStored (plan : Removal) (relations : List ClassRows) (stored : List Stored) : Type 0 where

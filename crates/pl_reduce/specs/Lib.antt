@@ -3,6 +3,7 @@ pub mod Nodes
 pub mod Walk
 pub mod Plan
 pub mod Reduced
+pub mod Layout
 pub mod Recipes
 pub use Rattle.pl_join.specs.Relation
 pub use Rattle.pl_hyper.specs.Ears

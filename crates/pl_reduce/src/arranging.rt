@@ -1,6 +1,7 @@
 //! The relations of a join with their columns in class order.
 
 ghost use Rattle.std.specs.Prelude.{◌≡◌, ◌+◌, ◌<◌, ◌≤◌, ℕ, Some, length, All, Contains, IfOk, OnOk};
+ghost use Rattle.std.specs.Prelude.{◌↔◌, IsTrue};
 ghost use Rattle.pl_join.specs.Relation.{ClassRows, AreDistinct};
 ghost use Rattle.pl_reduce.specs.Recipes.{option_at};
 ghost use Rattle.pl_reduce.specs.Lent.{option_rows, own_rows};
@@ -56,13 +57,32 @@ fn arrange_node<L: Ledger>(
         return Ok(());
     };
     let held = relation.classes();
-    let classes = in_order(alloc, order, held)?;
-    if held == classes.as_slice() {
+    if is_in_order(order, held) {
         return Ok(());
     }
+    let classes = in_order(alloc, order, held)?;
     let arranged = project(alloc, relation, &classes, steps)?;
     own[node] = Some(arranged);
     Ok(())
+}
+
+/// Whether the classes stand in the order, each once.
+fn is_in_order(order: &[u32], classes: &[u32]) -> bool
+    ensures { IsTrue result ↔ (classes.now ≡ ordered order.now classes.now) }
+{
+    let mut met = 0;
+    for class in order {
+        if classes.contains(class) {
+            if met >= classes.len() {
+                return false;
+            }
+            if classes[met] != *class {
+                return false;
+            }
+            met += 1;
+        }
+    }
+    met == classes.len()
 }
 
 /// The classes, in the order.

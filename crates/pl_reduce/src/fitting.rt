@@ -49,7 +49,7 @@ pub fn is_over_core(alloc: Global, classes: &[u32], plan: &EarPlan) -> Result<bo
 }
 
 /// The classes that some of the edges hold, as a set.
-fn held_by(edges: &[u64], some: &[u32]) -> u64
+pub fn held_by(edges: &[u64], some: &[u32]) -> u64
     requires { All (λ e. e < length edges.now) some.now }
     ensures { (c : ℕ) → (bit_at result c ≡ 1) ↔ IsHeldBy edges.now some.now c }
 {

@@ -158,7 +158,8 @@ fn key_all<L: Ledger>(
 ) -> Result<Vec<Option<Keyed>>, AllocError>
     requires few { length nodes.items ≤ length ears.now + 1 }
     requires parents { All (λ ear. ear.parent < length edges.now) ears.now }
-    ensures keyed { IfOk result (λ lent. AreKeyedOf (record { edges = edges.now; removed = ears.now; core = [] })
+    ensures keyed { IfOk result (λ lent. AreKeyedOf
+        (record { edges = edges.now; removed = ears.now; core = [] })
         nodes.items lent.items) }
     ensures rise { steps.old ≤ steps.new }
 {
@@ -186,7 +187,10 @@ fn key_some<L: Ledger>(
     ensures rise { steps.old ≤ steps.new }
 {
     match relation {
-        Some(relation) => Ok(Some(key(alloc, relation, node, edges, ears, steps)?)),
+        Some(relation) => {
+            let keyed = key(alloc, relation, node, edges, ears, steps)?;
+            Ok(Some(keyed.lasting(alloc)?))
+        }
         None => Ok(None),
     }
 }
@@ -247,7 +251,8 @@ fn turn<L: Ledger>(
     let edge = edges[ears[node - 1].edge as usize];
     let key = order_of(alloc, whole.classes(), edge)?;
     let relation = whole.copied(alloc)?;
-    Ok(Some(Keyed::by(alloc, &relation, &key, steps)?))
+    let keyed = Keyed::by(alloc, &relation, &key, steps)?;
+    Ok(Some(keyed.lasting(alloc)?))
 }
 
 /// For each node whether it may lose rows before its parent does: nothing is fixed there, or at a node below

@@ -5,6 +5,7 @@ ghost use Rattle.pl_hyper.specs.ClassOrder.{class_order};
 ghost use Rattle.pl_reduce.specs.Recipes.{option_at, AreFixed};
 
 use crate::fixing::{fix_all, turn_all};
+use crate::layout::Layout;
 use crate::parents::parent_nodes;
 use crate::reducer::edges_are_words;
 use pl_hyper::{Ear, EarPlan};
@@ -24,7 +25,7 @@ pub struct Recipe {
     ears: Vec<Ear>,
     core: Vec<u32>,
     fixed: Vec<Option<Relation>>,
-    classes: Vec<u32>,
+    layout: Layout,
     parents: Vec<usize>,
     lent: Vec<Option<Keyed>>,
     turned: Vec<Option<Keyed>>,
@@ -32,6 +33,7 @@ pub struct Recipe {
 
 impl Model for Recipe {
     ghost use Rattle.pl_reduce.specs.Recipes.{FixedJoin};
+    ghost use Rattle.pl_reduce.specs.Layout.{IsLayoutFor};
     ghost use Rattle.pl_reduce.specs.Fixing.{IsRecipe};
 
     ghost Value = { FixedJoin };
@@ -43,10 +45,13 @@ impl Model for Recipe {
 
     ghost invariant = { λ r. IsRecipe
         (record { edges = r.edges.items; removed = r.ears.items; core = r.core.items })
-        r.fixed.items r.classes.items r.parents.items r.lent.items r.turned.items };
+        r.fixed.items r.layout.classes r.parents.items r.lent.items r.turned.items
+        × IsLayoutFor (record { edges = r.edges.items; removed = r.ears.items; core = r.core.items })
+        r.layout };
 }
 
 impl Recipe {
+    ghost use Rattle.pl_reduce.specs.Layout.{IsLayoutFor};
     ghost use Rattle.pl_reduce.specs.Fixing.{IsRecipe};
 
     /// The recipe of a plan, with the relations that are fixed for some of its nodes.
@@ -65,9 +70,9 @@ impl Recipe {
         edges_are_words(plan.edges());
         // The facts of a removal are clauses of its parts.
         let _ = plan.removed();
-        let classes = plan.class_order(alloc)?;
+        let layout = Layout::of(alloc, plan)?;
         let parents = parent_nodes(alloc, plan)?;
-        let lent = fix_all(alloc, plan, &fixed, &classes, &parents, steps)?;
+        let lent = fix_all(alloc, plan, &fixed, layout.classes(), &parents, steps)?;
         let turned = turn_all(alloc, plan, &lent, &parents, steps)?;
         let edges = Vec::from_slice(alloc, plan.edges())?;
         let ears = Vec::from_slice(alloc, plan.removed())?;
@@ -77,7 +82,7 @@ impl Recipe {
             ears,
             core,
             fixed,
-            classes,
+            layout,
             parents,
             lent,
             turned,
@@ -104,7 +109,7 @@ impl Recipe {
     pub fn classes(&self) -> &[u32]
         ensures { result.now ≡ class_order self.now.plan }
     {
-        &self.classes
+        self.layout.classes()
     }
 
     /// What a reduction with it reads.
@@ -114,11 +119,14 @@ impl Recipe {
             self.now.fixed result.classes.now result.parents.now result.lent.now result.turned.now }
         ensures edges { result.edges.now ≡ self.now.plan.edges }
         ensures ears { result.ears.now ≡ self.now.plan.removed }
+        ensures layout { IsLayoutFor self.now.plan result.layout.now }
+        ensures classes { result.classes.now ≡ result.layout.now.classes }
     {
         Shape {
             edges: &self.edges,
             ears: &self.ears,
-            classes: &self.classes,
+            layout: &self.layout,
+            classes: self.layout.classes(),
             parents: &self.parents,
             lent: &self.lent,
             turned: &self.turned,
@@ -131,6 +139,7 @@ impl Recipe {
 pub struct Shape<'r> {
     pub edges: &'r [u64],
     pub ears: &'r [Ear],
+    pub layout: &'r Layout,
     pub classes: &'r [u32],
     pub parents: &'r [usize],
     pub lent: &'r [Option<Keyed>],

@@ -4,8 +4,9 @@ ghost use Rattle.std.specs.Prelude.{◌≡◌, ◌<◌, ◌≤◌, ℕ, [], leng
 ghost use Rattle.pl_rows.specs.Rows.{AreRows};
 ghost use Rattle.pl_reduce.specs.Nodes.{Node};
 ghost use Rattle.pl_reduce.specs.Reduced.{IsReduced};
-ghost use Rattle.pl_reduce.specs.Kept.{keyed_of};
+ghost use Rattle.pl_reduce.specs.Kept.{keyed_of, layout_of};
 
+use crate::layout::Layout;
 use pl_join::Keyed;
 use pl_rows::{Indexed, Table};
 use std::marker::Model;
@@ -17,13 +18,20 @@ pub enum Stored<'r> {
     Lent(&'r Keyed),
 }
 
+/// The layout of a join: its own, or lent by a recipe.
+#[derive(Drop)]
+pub enum StoredLayout<'r> {
+    Own(Layout),
+    Lent(&'r Layout),
+}
+
 /// The tables of a join after its full reduction: no table has a row that is in no answer of the join.
 ///
 /// Node 0 is the root, and node `i + 1` is the `i`-th removed ear. The columns of each table stand in class
-/// order. A fixed relation of a recipe that lost no row is lent from there.
+/// order. A recipe lends its layout, and each fixed relation that lost no row.
 #[derive(Drop)]
 pub struct Reduced<'r> {
-    classes: Vec<u32>,
+    layout: StoredLayout<'r>,
     nodes: Vec<Stored<'r>>,
 }
 
@@ -33,25 +41,30 @@ impl<'r> Model for Reduced<'r> {
 
     ghost Value = { ReducedJoin };
 
-    ghost use Rattle.pl_reduce.specs.Kept.{node_of, IsKept};
+    ghost use Rattle.pl_reduce.specs.Kept.{node_of, layout_of, IsKept};
 
-    ghost view = { λ r. record { classes = r.classes.items; nodes = map node_of r.nodes.items } };
+    ghost view = { λ r. record {
+      classes = (layout_of r.layout).classes;
+      nodes = map node_of r.nodes.items;
+    } };
 
-    ghost invariant = { λ r. IsKept r.classes.items r.nodes.items };
+    ghost invariant = { λ r. IsKept (layout_of r.layout) r.nodes.items };
 }
 
 impl<'r> Reduced<'r> {
     ghost use Rattle.pl_join.specs.Relation.{Assignment};
     ghost use Rattle.pl_reduce.specs.Nodes.{node_at, table_of, indexed_of};
     ghost use Rattle.pl_reduce.specs.Reduced.{IsReduced, KeysAreHeldBefore, FrontsAreProjections, JoinHolds};
-    ghost use Rattle.pl_reduce.specs.Kept.{node_of, IsKept};
+    ghost use Rattle.pl_reduce.specs.Layout.{IsLayoutOf};
+    ghost use Rattle.pl_reduce.specs.Kept.{node_of, layout_of, IsKept};
 
-    /// The reduced join of these classes and nodes.
-    pub(crate) fn new(classes: Vec<u32>, nodes: Vec<Stored<'r>>) -> Reduced<'r>
-        requires { IsKept classes.items nodes.items }
-        ensures { result ≡ record { classes = classes.items; nodes = map node_of nodes.entry.items } }
+    /// The reduced join of this layout and these nodes.
+    pub(crate) fn new(layout: StoredLayout<'r>, nodes: Vec<Stored<'r>>) -> Reduced<'r>
+        requires { IsKept (layout_of layout) nodes.items }
+        ensures { result ≡ record
+            { classes = (layout_of layout.entry).classes; nodes = map node_of nodes.entry.items } }
     {
-        Reduced { classes, nodes }
+        Reduced { layout, nodes }
     }
 
     /// How many nodes there are: one for the root, and one for each removed ear.
@@ -68,7 +81,14 @@ impl<'r> Reduced<'r> {
     pub fn classes(&self) -> &[u32]
         ensures { result.now ≡ self.now.classes }
     {
-        &self.classes
+        layout_of(&self.layout).classes()
+    }
+
+    /// Where a walk over the nodes stops, and at which place each class stands.
+    pub fn layout(&self) -> &Layout
+        ensures { IsLayoutOf self.now result.now }
+    {
+        layout_of(&self.layout)
     }
 
     /// The table of a node: one column for each of `node_classes`.
@@ -102,6 +122,16 @@ impl<'r> Reduced<'r> {
         ensures tables { IsTrue result → All (λ node. node.relation.rows ≡ []) self.now.nodes }
     {
         keyed(&self.nodes[0]).table().is_empty()
+    }
+}
+
+/// The layout of a join.
+fn layout_of<'a>(layout: &'a StoredLayout<'_>) -> &'a Layout
+    ensures { result.now ≡ layout_of layout.now }
+{
+    match layout {
+        StoredLayout::Own(layout) => layout,
+        StoredLayout::Lent(layout) => layout,
     }
 }
 

@@ -15,10 +15,11 @@ ghost use Rattle.pl_reduce.specs.Runs.{IsRun};
 ghost use Rattle.pl_reduce.specs.Reduced.{IsReductionOf};
 
 use crate::arranging::arrange_all;
+use crate::layout::Layout;
 use crate::parents::parent_nodes;
 use crate::passes::reduce_all;
 use crate::recipe::Recipe;
-use crate::reduced::{Reduced, Stored};
+use crate::reduced::{Reduced, Stored, StoredLayout};
 use crate::storing::store_all;
 use pl_hyper::{Ear, EarPlan};
 use pl_join::{Keyed, Relation};
@@ -56,11 +57,21 @@ impl<'r> Reduced<'r> {
         let edges = plan.edges();
         // The facts of a removal are clauses of its parts.
         let ears = plan.removed();
-        let classes = plan.class_order(alloc)?;
+        let layout = Layout::of(alloc, plan)?;
         let parents = parent_nodes(alloc, plan)?;
         let own = given_all(alloc, root, rest)?;
-        let nodes = reduce_nodes(alloc, edges, ears, &classes, &parents, &[], &[], own, steps)?;
-        Ok(Reduced::new(classes, nodes))
+        let nodes = reduce_nodes(
+            alloc,
+            edges,
+            ears,
+            layout.classes(),
+            &parents,
+            &[],
+            &[],
+            own,
+            steps,
+        )?;
+        Ok(Reduced::new(StoredLayout::Own(layout), nodes))
     }
 
     /// Reduces a join with fixed relations to the rows that are in its answers, as `reduce` does.
@@ -87,7 +98,6 @@ impl<'r> Reduced<'r> {
         ensures rise { steps.old ≤ steps.new }
     {
         let shape = recipe.shape();
-        let classes = Vec::from_slice(alloc, shape.classes)?;
         let nodes = reduce_nodes(
             alloc,
             shape.edges,
@@ -99,7 +109,7 @@ impl<'r> Reduced<'r> {
             given,
             steps,
         )?;
-        Ok(Reduced::new(classes, nodes))
+        Ok(Reduced::new(StoredLayout::Lent(shape.layout), nodes))
     }
 }
 

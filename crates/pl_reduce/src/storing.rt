@@ -103,7 +103,7 @@ pub fn key<L: Ledger>(
 }
 
 /// How many of a node's classes its ear's parent holds; the root has no parent.
-fn width_of(edges: &[u64], ears: &[Ear], node: usize, classes: &[u32]) -> u32
+pub fn width_of(edges: &[u64], ears: &[Ear], node: usize, classes: &[u32]) -> u32
     requires few { length classes.now ≤ 64 }
     requires below { All (λ c. c < 64) classes.now }
     requires within { node ≤ length ears.now }

@@ -61,6 +61,6 @@ loop-t-preserved g c =
 pub returns-clause-narrowed : goal.returns-clause-narrowed
 returns-clause-narrowed g c =
     narrow_all (stages_of c.args.reduced.now) (length c.args.reduced.now.classes) c.loop-t.frames
-    c.args.answer.now c.args.layout.now.count c.requires.layout.count
+    c.args.answer.now (length c.args.layout.now.stops.now) c.requires.layout.count
     (subst (Narrows (stages_of c.args.reduced.now) (length c.args.reduced.now.classes) c.loop-t.frames
     c.args.answer.now) (omega (arith, c.loop-t-test.false, c.loop-t.auto.t-end)) c.loop-t.invariant.0)

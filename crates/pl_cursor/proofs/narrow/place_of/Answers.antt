@@ -5,7 +5,7 @@ use Rattle.pl_rows.specs.Rows.{Rows}
 use Rattle.pl_reduce.specs.Nodes.{node_at}
 use Rattle.pl_cursor.specs.Answers.{stage_at}
 use Rattle.pl_cursor.specs.Stages.{stages_of}
-use Rattle.pl_cursor.specs.Kept.{stop_at}
+use Rattle.pl_reduce.specs.Layout.{stop_at}
 use Rattle.pl_cursor.proofs.Stops.{at_stop, stop_brings, brings_fits, narrow_join}
 use Rattle.pl_cursor.proofs.Narrowing.{sought_of, placed_yes, placed_no}
 use Rattle.pl_cursor.proofs.narrow.place_of.Goals as goal
@@ -58,7 +58,7 @@ returns-then-has_at-clause-place g c =
     let there = at_stop join c.args.layout.now c.args.t c.args.answer.now c.requires.layout
     c.requires.depth in
     let arity : length c.node_classes-arity.result.now ≡ length
-    (node_at join.nodes (stop_at c.args.layout.now.stops c.args.t).node).relation.classes =
+    (node_at join.nodes (stop_at c.args.layout.now.stops.now c.args.t).node).relation.classes =
     ap length c.node_classes-arity.ensures in
     let brings = stop_brings join c.args.layout.now c.args.t (length c.node_classes-arity.result.now)
     c.args.answer.now c.requires.layout c.requires.depth arity c.requires.onward in
@@ -67,8 +67,8 @@ returns-then-has_at-clause-place g c =
     let rows : (stage_at (stages_of join) c.args.t).rows ≡ c.table-table.result.now.rows = there.rows
     ∙ sym (ap (λ (t : Rows). t.rows) c.table-table.ensures) in
     let sought = sought_of (stage_at (stages_of join) c.args.t) (length join.classes)
-    (length c.node_classes-arity.result.now - (stop_at c.args.layout.now.stops c.args.t).width)
-    (stop_at c.args.layout.now.stops c.args.t).width (stop_at c.args.layout.now.stops c.args.t).from
+    (length c.node_classes-arity.result.now - (stop_at c.args.layout.now.stops.now c.args.t).width)
+    (stop_at c.args.layout.now.stops.now c.args.t).width (stop_at c.args.layout.now.stops.now c.args.t).from
     (length c.node_classes-arity.result.now)
     c.args.answer.now c.look_up-range.new.key c.write_part.new.into c.table-table.result.now.rows
     c.look_up-range.result.from c.look_up-range.result.to c.first_in-at.result
@@ -78,7 +78,7 @@ returns-then-has_at-clause-place g c =
     (omega (arith, few, c.requires.answer))
     c.write_part.ensures c.first_in-at.ensures.low c.first_in-at.ensures.high c.first_in-at.ensures.first in
     placed_yes (stages_of join) (length join.classes) c.args.t
-    (length c.node_classes-arity.result.now - (stop_at c.args.layout.now.stops c.args.t).width)
+    (length c.node_classes-arity.result.now - (stop_at c.args.layout.now.stops.now c.args.t).width)
     c.args.answer.now
     (take (length c.node_classes-arity.result.now) c.write_part.new.into) c.look_up-range.new.key
     c.table-table.result.now.rows c.look_up-range.result.from c.look_up-range.result.to
@@ -92,7 +92,7 @@ returns-clause-place g c =
     let there = at_stop join c.args.layout.now c.args.t c.args.answer.now c.requires.layout
     c.requires.depth in
     let arity : length c.node_classes-arity.result.now ≡ length
-    (node_at join.nodes (stop_at c.args.layout.now.stops c.args.t).node).relation.classes =
+    (node_at join.nodes (stop_at c.args.layout.now.stops.now c.args.t).node).relation.classes =
     ap length c.node_classes-arity.ensures in
     let brings = stop_brings join c.args.layout.now c.args.t (length c.node_classes-arity.result.now)
     c.args.answer.now c.requires.layout c.requires.depth arity c.requires.onward in
@@ -101,8 +101,8 @@ returns-clause-place g c =
     let rows : (stage_at (stages_of join) c.args.t).rows ≡ c.table-table.result.now.rows = there.rows
     ∙ sym (ap (λ (t : Rows). t.rows) c.table-table.ensures) in
     let sought = sought_of (stage_at (stages_of join) c.args.t) (length join.classes)
-    (length c.node_classes-arity.result.now - (stop_at c.args.layout.now.stops c.args.t).width)
-    (stop_at c.args.layout.now.stops c.args.t).width (stop_at c.args.layout.now.stops c.args.t).from
+    (length c.node_classes-arity.result.now - (stop_at c.args.layout.now.stops.now c.args.t).width)
+    (stop_at c.args.layout.now.stops.now c.args.t).width (stop_at c.args.layout.now.stops.now c.args.t).from
     (length c.node_classes-arity.result.now)
     c.args.answer.now c.look_up-range.new.key c.write_part.new.into c.table-table.result.now.rows
     c.look_up-range.result.from c.look_up-range.result.to c.first_in-at.result
@@ -112,7 +112,7 @@ returns-clause-place g c =
     (omega (arith, few, c.requires.answer))
     c.write_part.ensures c.first_in-at.ensures.low c.first_in-at.ensures.high c.first_in-at.ensures.first in
     placed_no (stages_of join) (length join.classes) c.args.t
-    (length c.node_classes-arity.result.now - (stop_at c.args.layout.now.stops c.args.t).width)
+    (length c.node_classes-arity.result.now - (stop_at c.args.layout.now.stops.now c.args.t).width)
     c.args.answer.now
     (take (length c.node_classes-arity.result.now) c.write_part.new.into) c.look_up-range.new.key
     c.table-table.result.now.rows c.look_up-range.result.from c.look_up-range.result.to

@@ -25,10 +25,10 @@ returns-clause-found g c =
     let d = c.descend.ensures.descends left
     (subst (Descends (stages_of c.args.reduced.now) (length c.args.reduced.now.classes) left
     c.take_row.new.frames c.take_row.new.answer) count c.take_row.ensures.descends) in
-    let end : length (stages_of c.args.reduced.now) ≤ c.args.layout.now.count =
+    let end : length (stages_of c.args.reduced.now) ≤ (length c.args.layout.now.stops.now) =
     omega (arith, c.requires.layout.count) in
     c.open_depth-depth.ensures.left (stages_of c.args.reduced.now) c.args.position.now.answer
     ∙ ap (left_in (stages_of c.args.reduced.now) c.args.position.now.frames c.args.position.now.answer)
     (omega (arith, c.if-depth-eq0.false))
     ∙ whole_answer (stages_of c.args.reduced.now) (length c.args.reduced.now.classes) left
-    c.descend.new.frames c.descend.new.answer c.args.layout.now.count end d
+    c.descend.new.frames c.descend.new.answer (length c.args.layout.now.stops.now) end d

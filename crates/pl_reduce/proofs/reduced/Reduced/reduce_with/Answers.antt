@@ -1,10 +1,10 @@
-use Rattle.std.proofs.Common.{◌∙◌, refl}
+use Rattle.std.proofs.Common.{refl}
 use Rattle.pl_hyper.specs.ClassOrder.{class_order}
 use Rattle.pl_reduce.specs.Runs.{IsRun}
 use Rattle.pl_reduce.specs.Fixing.{IsRecipe}
 use Rattle.pl_reduce.proofs.Beginnings.{given_relations, there}
 use Rattle.pl_reduce.proofs.Wholes.{bare, lent_cost}
-use Rattle.pl_reduce.proofs.Endings.{IsDone, recipe_is, run_moved, done_held, done_parents, done_kept}
+use Rattle.pl_reduce.proofs.Endings.{IsDone, recipe_is, run_moved, done_held, done_parents, done_whole}
 use Rattle.pl_reduce.proofs.Endings.{done_columns, done_reduction}
 use Rattle.pl_reduce.proofs.reduced.Reduced.reduce_with.Goals as goal
 
@@ -92,9 +92,8 @@ new-requires g c =
     c.in_ok-nodes.nodes.items = run_moved join.plan s.edges.now s.ears.now s.classes.now s.lent.now
     c.args.given.items c.args.given.items c.in_ok-nodes.nodes.items c.shape-shape.ensures.edges
     c.shape-shape.ensures.ears recipe.plan_is.order refl c.in_ok-nodes.ensures.run in
-    done_kept join.plan join.fixed c.args.given.items s.lent.now s.classes.now s.parents.now
-    c.in_ok-classes.classes.items c.in_ok-nodes.nodes.items done
-    (c.in_ok-classes.ensures.items ∙ recipe.plan_is.order) run
+    done_whole join.plan join.fixed c.args.given.items s.lent.now s.classes.now s.parents.now
+    s.layout.now c.in_ok-nodes.nodes.items done c.shape-shape.ensures.layout run
 
 pub returns-clause-columns : goal.returns-clause-columns
 returns-clause-columns g c =
@@ -115,7 +114,7 @@ returns-clause-columns g c =
     c.args.given.items c.args.given.items c.in_ok-nodes.nodes.items c.shape-shape.ensures.edges
     c.shape-shape.ensures.ears recipe.plan_is.order refl c.in_ok-nodes.ensures.run in
     done_columns join.plan join.fixed c.args.given.items s.lent.now s.classes.now s.parents.now
-    c.in_ok-classes.classes.items c.in_ok-nodes.nodes.items c.new.result done c.new.ensures run
+    s.layout.now.classes c.in_ok-nodes.nodes.items c.new.result done c.new.ensures run
 
 pub returns-clause-reduction : goal.returns-clause-reduction
 returns-clause-reduction g c =
@@ -136,5 +135,5 @@ returns-clause-reduction g c =
     c.args.given.items c.args.given.items c.in_ok-nodes.nodes.items c.shape-shape.ensures.edges
     c.shape-shape.ensures.ears recipe.plan_is.order refl c.in_ok-nodes.ensures.run in
     done_reduction join.plan join.fixed c.args.given.items s.lent.now s.classes.now s.parents.now
-    c.in_ok-classes.classes.items c.in_ok-nodes.nodes.items c.new.result done c.new.ensures
-    (c.in_ok-classes.ensures.items ∙ recipe.plan_is.order) run
+    s.layout.now.classes c.in_ok-nodes.nodes.items c.new.result done c.new.ensures
+    c.shape-shape.ensures.layout.classes run
