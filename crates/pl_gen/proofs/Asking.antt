@@ -20,14 +20,8 @@ use Rattle.pl_state.specs.Tables.{IsTableOf, AreTablesOf}
 use Rattle.pl_state.proofs.StatesOfWords.{among_rows, same_test, state_in-other}
 use Rattle.pl_normal.proofs.Asking.{definition}
 use Rattle.pl_normal.specs.StateTables.{AreTables, HasTable, is_true_by, state_of_tables}
-
-not_both : (b : Bool) → not b ≡ true → b ≡ false
-not_both false h = refl
-not_both true h = absurd (cc)
-
-not_neither : (b : Bool) → not b ≡ false → b ≡ true
-not_neither true h = refl
-not_neither false h = absurd (cc)
+use Rattle.std.proofs.lemmas.Bool.{not-true}
+use Rattle.std.proofs.lemmas.Bool.{not-false}
 
 static_one : (task : Task) (p : ℕ) (d : PredicateDef) → slice_get task.predicates p ≡ Some d →
     d.is_static ≡ true → is_fluent_in task p ≡ false
@@ -74,9 +68,9 @@ are_tables task s tables are = record { many = are.many; each = λ p d low. tabl
     by p d x true low found is =
         subst (HasTable task p) (sym (get_or_from_slice_get tables p None d
         ((are.each p x low found).static is)))
-        (not_both (is_fluent task.schemas p) (sym (task.predicates_ok.static p x found) ∙ is))
+        (not-true (is_fluent task.schemas p) (sym (task.predicates_ok.static p x found) ∙ is))
     by p d x false low found is =
-        of_table p d x found (not_neither (is_fluent task.schemas p)
+        of_table p d x found (not-false (is_fluent task.schemas p)
         (sym (task.predicates_ok.static p x found) ∙ is)) ((are.each p x low found).fluent is)
 
     table_at : (p : ℕ) (d : Option Rows) → p < length tables → HasTable task p (get_or tables p d)

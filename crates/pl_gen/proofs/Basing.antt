@@ -1,8 +1,8 @@
 -- The preparation of a state, a walk that is resumed and one step with local filters keep within the base
 -- bound.
-use Rattle.std.proofs.Common.{◌≡◌, ◌≢◌, ℕ, ◌+◌, ◌*◌, ◌<◌, ◌≤◌, ◌==◌, inl, inr, zero, suc, Bool, true, false}
+use Rattle.std.proofs.Common.{◌≡◌, ℕ, ◌+◌, ◌*◌, ◌<◌, ◌≤◌, ◌==◌, zero, suc, Bool, true, false}
 use Rattle.std.proofs.Common.{cond, List, [], ◌∷◌, length, refl, sym, ap, subst, arith, Contains, eqb-true}
-use Rattle.std.specs.List.{AllPairs, flat_map, sum_by, range_with_len}
+use Rattle.std.specs.List.{flat_map, sum_by, range_with_len}
 use Rattle.std.proofs.lemmas.List.{length-append}
 use Rattle.std.proofs.lemmas.List.FromFn.{length-range_with_len}
 use Rattle.std.proofs.lemmas.List.Sums.{sum_by-cons}
@@ -25,34 +25,12 @@ use Rattle.pl_normal.proofs.SlotLemmas.{parameter_slots-length}
 use Rattle.pl_state.specs.StateOf.{state_in}
 use Rattle.pl_gen.specs.Measures.{close_entry_probes}
 use Rattle.pl_gen.specs.Walks.{AreAcyclic, sought_classes, resume_reads, step_reads}
-use Rattle.pl_normal.proofs.Few.{IsWithout, taken_out}
-use Rattle.pl_gen.proofs.Sizes.{edges_few, flat_few, known_one, literal_guard_one, times_few}
+use Rattle.pl_normal.proofs.Forming.{flat_short}
+use Rattle.pl_gen.proofs.Sizes.{edges_few, known_one, literal_guard_one}
+use Rattle.pl_normal.proofs.Leaving.{sum_into}
+use Rattle.std.proofs.Math.Nat.{mul-le-mul_right}
 
 -- ---- the guards and the unfixed classes are no more than the literals and the parameters
-
-rest_apart : (x : ℕ) (xs : List ℕ) → AllPairs (λ a b. a ≢ b) (x ∷ xs) → AllPairs (λ a b. a ≢ b) xs
-rest_apart x xs apart i j d lt low = apart (suc i) (suc j) d (omega (arith, lt)) (omega (arith, low))
-
-first_apart : (x : ℕ) (xs : List ℕ) → AllPairs (λ a b. a ≢ b) (x ∷ xs) → Contains xs x → ⊥
-first_apart x xs apart (k, low, at) = apart 0 (suc k) x (omega arith) (omega (arith, low)) (sym at)
-
--- numbers that differ and are among others weigh no more than these
-sum_into : (w : ℕ → ℕ) (xs ys : List ℕ) → AllPairs (λ a b. a ≢ b) xs →
-    ((x : ℕ) → Contains xs x → Contains ys x) → sum_by w xs ≤ sum_by w ys
-sum_into w [] ys apart held = omega arith
-sum_into w (x ∷ xs) ys apart held = by (taken_out ys x (held x (Contains-cons_first x xs)))
-    (λ rest is. sum_into w xs rest (rest_apart x xs apart) (still rest is))
-  where
-    still : (rest : List ℕ) → IsWithout ys x rest → (y : ℕ) → Contains xs y → Contains rest y
-    still rest is y c = elim (is.others y (held y (Contains-cons_rest x xs y c))) [
-      | inl e ↦ absurd (first_apart x xs apart (subst (Contains xs) (sym e) c))
-      | inr q ↦ q
-    ]
-
-    by : (rest : List ℕ) × IsWithout ys x rest → ((rest : List ℕ) → IsWithout ys x rest →
-        sum_by w xs ≤ sum_by w rest) → sum_by w (x ∷ xs) ≤ sum_by w ys
-    by (rest, is) next = (let few = next rest is in let whole = is.sums w in let own = sum_by-cons w x xs in
-        omega (arith, few, whole, own))
 
 all_one : (w : ℕ → ℕ) (xs : List ℕ) → ((x : ℕ) → Contains xs x → w x ≡ 1) → sum_by w xs ≡ length xs
 all_one w [] one = refl
@@ -110,7 +88,7 @@ guards_and_classes task schema =
     let whole = length-append (flat_map (λ p. type_guard task (types_at schema.parameters p)
     (slot_at (parameter_slots schema) p)) (range_with_len 0 (length (parameter_slots schema))))
     (flat_map (literal_guard task (parameter_slots schema)) schema.condition) in
-    let literals = flat_few (literal_guard task (parameter_slots schema)) schema.condition
+    let literals = flat_short (literal_guard task (parameter_slots schema)) schema.condition
     (literal_guard_one task (parameter_slots schema)) in
     let classes = classes_open schema in
     omega (arith, slots, many, types, whole, literals, classes)
@@ -126,7 +104,7 @@ some_times c rows some = grind (arith, some)
 filled_base : (g n l k c rows : ℕ) → g + k ≤ c → n + l ≤ c → 0 < rows →
     (g + (3 * n + 2 * l) * rows) + (3 * k + 2 * k) ≤ 4 * c * (rows + 1)
 filled_base g n l k c rows guards edges some =
-    let tables = times_few (3 * n + 2 * l) (3 * c) rows (omega (arith, edges)) in
+    let tables = mul-le-mul_right {m = 3 * n + 2 * l} {n = 3 * c} rows (omega (arith, edges)) in
     let own = some_times c rows some in
     let parts = more_rows c rows in omega (arith, guards, tables, own, parts)
 

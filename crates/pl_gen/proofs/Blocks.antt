@@ -1,7 +1,7 @@
 -- Filters of lists that are made block by block or by a map, and the numbers of the blocks.
-use Rattle.std.proofs.Common.{◌≡◌, ℕ, ◌+◌, ◌<◌, ◌≤◌, zero, suc, Bool, true, false, ◌&&◌, cond, List, [], ◌∷◌}
+use Rattle.std.proofs.Common.{◌≡◌, ℕ, ◌+◌, ◌<◌, ◌≤◌, zero, suc, Bool, true, false, cond, List, [], ◌∷◌}
 use Rattle.std.proofs.Common.{◌++◌, map, filter, refl, ◌∙◌, ap, arith, Contains}
-use Rattle.std.specs.List.{flat_map, list_all, range_with_len}
+use Rattle.std.specs.List.{flat_map, range_with_len}
 use Rattle.std.proofs.lemmas.List.Elements.{filter-append}
 use Rattle.std.proofs.lemmas.List.FromFn.{length-range_with_len, get_or-range_with_len}
 use Rattle.pl_rows.proofs.Canonical.{Contains-cons_first, Contains-cons_rest}
@@ -12,14 +12,6 @@ no_members [] h = refl
 no_members (x ∷ xs) h = absurd (h x (Contains-cons_first x xs))
 
 -- ---- tests that agree on the members
-
-pub all_agree : {X : Type 0} (p q : X → Bool) (xs : List X) → ((x : X) → Contains xs x → p x ≡ q x) →
-    list_all p xs ≡ list_all q xs
-all_agree p q [] h = refl
-all_agree p q (x ∷ xs) h =
-    let first : p x ≡ q x = h x (Contains-cons_first x xs) in
-    let rest : list_all p xs ≡ list_all q xs = all_agree p q xs (λ y c. h y (Contains-cons_rest x xs y c)) in
-    λ i. first i && rest i
 
 pub filter_agree : {X : Type 0} (p q : X → Bool) (xs : List X) → ((x : X) → Contains xs x → p x ≡ q x) →
     filter p xs ≡ filter q xs

@@ -42,7 +42,7 @@ use Rattle.pl_normal.proofs.Lists.{passes_all}
 use Rattle.pl_normal.proofs.Ordered.{in_order_unfixed, unfixed_itself, classes_once}
 use Rattle.pl_normal.proofs.SlotLemmas.{parameter_value}
 use Rattle.pl_gen.specs.SchemaSteps.{AreRowsOf}
-use Rattle.pl_gen.proofs.Blocks.{all_agree}
+use Rattle.pl_normal.proofs.Unchanging.{all_agree}
 use Rattle.pl_gen.proofs.SchemaRows.{filters_of, filter_agrees, terms_agree, assigned_row, assigned_agrees}
 
 -- ---- assignments that give the parameters the same objects meet the same edges and local filters

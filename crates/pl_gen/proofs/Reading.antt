@@ -29,6 +29,7 @@ use Rattle.pl_gen.specs.Walks.{PreparedState, state_of_prepared, schema_reads, r
 use Rattle.pl_gen.proofs.Stepping.{schema_here, with_entry, entry_at}
 use Rattle.pl_gen.proofs.Turning.{join_rows}
 use Rattle.pl_gen.proofs.Counting.{rows_counted}
+use Rattle.std.proofs.Math.Nat.{mul-le-mul_right}
 
 times_more : (m r : ℕ) → (suc m) * r ≡ r + m * r
 times_more m r = grind arith
@@ -186,9 +187,6 @@ once_reads p number =
     let less = less_here (schema_reads p.task (state_of_prepared p)) p.task.schemas number in
     omega (arith, none, less)
 
-fewer_times : (n m r : ℕ) → n ≤ m → n * r ≤ m * r
-fewer_times n m r h = grind arith
-
 -- the rows of a turn, and three probes more for each class
 pub rows_reads : (p : PreparedState) (number : ℕ) (schema : Schema) (cursor : CursorView)
     → slice_get p.task.schemas number ≡ Some schema → length cursor.left ≤ local_answers p.task
@@ -199,8 +197,9 @@ rows_reads p number schema cursor found few =
     let here : turn_reads_of (slice_get p.task.schemas number) (turn.Rows cursor) ≡ length
     cursor.left * row_reads schema = ap (λ x. turn_reads_of x (turn.Rows cursor)) found in
     let whole = split_here (schema_reads p.task (state_of_prepared p)) p.task.schemas number schema found in
-    let less = fewer_times (length cursor.left) (local_answers p.task (state_of_prepared p) schema)
-    (row_reads schema) few in omega (arith, here, whole, less)
+    let less = mul-le-mul_right {m = length cursor.left}
+    {n = local_answers p.task (state_of_prepared p) schema} (row_reads schema) few in
+    omega (arith, here, whole, less)
 
 -- the answers of a schema's join are as many as its local answers
 answers_counted : (p : PreparedState) (number : ℕ) (schema : Schema) (join : ReducedJoin)

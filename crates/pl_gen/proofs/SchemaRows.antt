@@ -50,7 +50,8 @@ use Rattle.pl_normal.proofs.Listing.{sorted_none, sorted_first, sorted_map, sort
 use Rattle.pl_normal.proofs.Listing.{one_place, block_ascends, applicable_listed, step_order_total}
 use Rattle.pl_normal.proofs.Listing.{steps_are_assignments, steps_compare}
 use Rattle.pl_gen.specs.SchemaSteps.{AreRowsOf, applicable_of, step_at, passes_late}
-use Rattle.pl_gen.proofs.Blocks.{no_members, all_agree, filter-flat_map}
+use Rattle.pl_normal.proofs.Unchanging.{all_agree}
+use Rattle.pl_gen.proofs.Blocks.{no_members, filter-flat_map}
 
 -- ---- schema by schema
 

@@ -34,14 +34,11 @@ use Rattle.pl_state.specs.StateOf.{state_in}
 use Rattle.pl_gen.specs.Measures.{entry_probes, close_entry_probes}
 use Rattle.pl_gen.specs.Walks.{AreAcyclic, schema_reads, reads_in}
 use Rattle.pl_gen.proofs.Giving.{classes_few}
+use Rattle.pl_normal.proofs.Forming.{flat_short, if_short, type_short}
+use Rattle.std.proofs.Math.Nat.{mul-le-mul_right}
+use Rattle.std.proofs.Math.Nat.{mul-le-mul_left}
 
 -- ---- lists that are put together of no more than one element each
-
-pub flat_few : {X Y : Type 0} (f : X → List Y) (xs : List X) → ((x : X) → length (f x) ≤ 1) →
-    length (flat_map f xs) ≤ length xs
-flat_few f [] one = omega arith
-flat_few f (x ∷ xs) one = let own = one x in let rest = flat_few f xs one in let whole =
-    length-append (f x) (flat_map f xs) in omega (arith, own, rest, whole)
 
 both_few : {X Y Z : Type 0} (f : X → List Y) (g : X → List Z) (xs : List X)
     → ((x : X) → length (f x) + length (g x) ≤ 1) → length (flat_map f xs) + length
@@ -55,14 +52,6 @@ both_few f g (x ∷ xs) one =
 
 -- ---- the edges and filters
 
-type_one : (p : ℕ) (slot : Slot) → length (type_edge p slot) ≤ 1
-type_one p (Fixed o) = omega arith
-type_one p (Class c) = omega arith
-
-if_one : {Y : Type 0} (b : Bool) (y : Y) → length (if b then [] else y ∷ []) ≤ 1
-if_one true y = omega arith
-if_one false y = omega arith
-
 plus_none : (n : ℕ) → n ≤ 1 → n + 0 ≤ 1
 plus_none n h = omega (arith, h)
 
@@ -72,12 +61,12 @@ none_plus n h = omega (arith, h)
 literal_one : (slots : List Slot) (l : Literal) → length (literal_edge slots l) + length
     (literal_sieve slots l) ≤ 1
 literal_one slots (literal.Atom a) = plus_none (length (literal_edge slots (literal.Atom a)))
-    (if_one (are_fixed (slots_of slots a.terms)) _)
+    (if_short (are_fixed (slots_of slots a.terms)) _)
 literal_one slots (literal.NotAtom a) = none_plus (length (literal_sieve slots (literal.NotAtom a)))
-    (if_one (are_fixed (slots_of slots a.terms)) _)
+    (if_short (are_fixed (slots_of slots a.terms)) _)
 literal_one slots (literal.Equal a b) = omega arith
 literal_one slots (literal.NotEqual a b) = none_plus (length (literal_sieve slots (literal.NotEqual a b)))
-    (if_one (is_fixed (slot_of slots a) && is_fixed (slot_of slots b)) _)
+    (if_short (is_fixed (slot_of slots a) && is_fixed (slot_of slots b)) _)
 
 local_one : (place : Option ℕ) (x : Sieve) → length (local_at place x) ≤ 1
 local_one None x = omega arith
@@ -92,16 +81,16 @@ unfolding edges_of type_edges atom_edges local_of local_among sieves_of
 edges_few schema =
     let slots = parameter_slots-length schema in
     let many = length-range_with_len 0 (length (parameter_slots schema)) in
-    let types = flat_few (λ p. type_edge p (slot_at (parameter_slots schema) p))
+    let types = flat_short (λ p. type_edge p (slot_at (parameter_slots schema) p))
     (range_with_len 0 (length (parameter_slots schema)))
-    (λ p. type_one p (slot_at (parameter_slots schema) p)) in
+    (λ p. type_short p (slot_at (parameter_slots schema) p)) in
     let whole = length-append
     (flat_map (λ p. type_edge p (slot_at (parameter_slots schema) p))
     (range_with_len 0 (length (parameter_slots schema))))
     (flat_map (literal_edge (parameter_slots schema)) schema.condition) in
     let literals = both_few (literal_edge (parameter_slots schema))
     (literal_sieve (parameter_slots schema)) schema.condition (literal_one (parameter_slots schema)) in
-    let local = flat_few (λ x. local_at (home (edges_of schema) x) x)
+    let local = flat_short (λ x. local_at (home (edges_of schema) x) x)
     (flat_map (literal_sieve (parameter_slots schema)) schema.condition)
     (λ x. local_one (home (edges_of schema) x) x) in
     omega (arith, slots, many, types, whole, literals, local)
@@ -111,7 +100,7 @@ unfolding late_of late_among sieves_of
 late_few schema =
     let literals = both_few (literal_edge (parameter_slots schema))
     (literal_sieve (parameter_slots schema)) schema.condition (literal_one (parameter_slots schema)) in
-    let late = flat_few (λ x. late_at (home (edges_of schema) x) x)
+    let late = flat_short (λ x. late_at (home (edges_of schema) x) x)
     (flat_map (literal_sieve (parameter_slots schema)) schema.condition)
     (λ x. late_one (home (edges_of schema) x) x) in
     omega (arith, literals, late)
@@ -162,7 +151,7 @@ unfolding guards_of type_guards literal_guards
 guards_few task schema =
     let slots = parameter_slots-length schema in
     let many = length-range_with_len 0 (length (parameter_slots schema)) in
-    let types = flat_few
+    let types = flat_short
     (λ p. type_guard task (types_at schema.parameters p) (slot_at (parameter_slots schema) p))
     (range_with_len 0 (length (parameter_slots schema)))
     (λ p. type_guard_one task (types_at schema.parameters p) (slot_at (parameter_slots schema) p)) in
@@ -170,17 +159,11 @@ guards_few task schema =
     (flat_map (λ p. type_guard task (types_at schema.parameters p) (slot_at (parameter_slots schema) p))
     (range_with_len 0 (length (parameter_slots schema))))
     (flat_map (literal_guard task (parameter_slots schema)) schema.condition) in
-    let literals = flat_few (literal_guard task (parameter_slots schema)) schema.condition
+    let literals = flat_short (literal_guard task (parameter_slots schema)) schema.condition
     (literal_guard_one task (parameter_slots schema)) in
     omega (arith, slots, many, types, whole, literals)
 
 -- ---- the bound of a schema
-
-few_times : (n a b : ℕ) → a ≤ b → n * a ≤ n * b
-few_times n a b h = grind arith
-
-pub times_few : (n m r : ℕ) → n ≤ m → n * r ≤ m * r
-times_few n m r h = grind arith
 
 bound_parts : (c rows answers : ℕ) → 4 * c * (rows + answers + 1) ≡ 4 * c * rows + answers * (4 * c) + 4 * c
 bound_parts c rows answers = grind arith
@@ -188,8 +171,8 @@ bound_parts c rows answers = grind arith
 within_bound : (g n k t c rows answers : ℕ) → n ≤ c → g ≤ c → k ≤ c → t ≤ c
     → (g + 4 * n * rows) + (3 * k + answers * (2 * k + t)) ≤ 4 * c * (rows + answers + 1)
 within_bound g n k t c rows answers edges guards classes late =
-    let tables = times_few (4 * n) (4 * c) rows (omega (arith, edges)) in
-    let reads = few_times answers (2 * k + t) (4 * c) (omega (arith, classes, late)) in
+    let tables = mul-le-mul_right {m = 4 * n} {n = 4 * c} rows (omega (arith, edges)) in
+    let reads = mul-le-mul_left {m = 2 * k + t} {n = 4 * c} answers (omega (arith, classes, late)) in
     let parts = bound_parts c rows answers in omega (arith, guards, classes, tables, reads, parts)
 
 schema_within : (task : Task) (s : State) (schema : Schema)
@@ -240,10 +223,6 @@ schemas_more w task schemas i start before after schema same low at old cost acy
     let first = old acyclic in
     let own = cost (acyclic schema among) in omega (arith, more, first, own)
 
--- a count that rises twice
-pub rises : (a b c d : ℕ) → a ≤ b → b ≤ c → d ≡ c → a ≤ d
-rises a b c d h k e = omega arith
-
 few_sums : (f g : Schema → ℕ) (schemas : List Schema) → ((schema : Schema) → f schema ≤ g schema) →
     sum_by f schemas ≤ sum_by g schemas
 few_sums f g [] each = omega arith
@@ -254,7 +233,8 @@ few_sums f g (x ∷ xs) each =
     let second = sum_by-cons g x xs in omega (arith, own, rest, first, second)
 
 closer : (g n l rows : ℕ) → g + (3 * n + 2 * l) * rows ≤ g + 4 * (n + l) * rows
-closer g n l rows = let few = times_few (3 * n + 2 * l) (4 * (n + l)) rows (omega arith) in omega (arith, few)
+closer g n l rows = let few = mul-le-mul_right {m = 3 * n + 2 * l} {n = 4 * (n + l)} rows (omega arith) in
+    omega (arith, few)
 
 all_closer : (task : Task) (s : State) → sum_by (close_entry_probes task s) task.schemas ≤ sum_by
     (entry_probes task s) task.schemas

@@ -55,7 +55,7 @@ use Rattle.pl_gen.specs.Queries.{IsQuery}
 use Rattle.pl_gen.specs.Turns.{object_at, object_or, passing, prepared_of, steps_of_turn, HasNextRow}
 use Rattle.pl_gen.specs.Turns.{HasNextStep, left_at, step_of_place, TakesStep, IsPlace}
 use Rattle.pl_gen.specs.declared.place.Place.{Place}
-use Rattle.pl_gen.proofs.Blocks.{all_agree}
+use Rattle.pl_normal.proofs.Unchanging.{all_agree}
 use Rattle.std.specs.declared.cmp.Ordering.{Ordering}
 use Rattle.std.specs.Ordering.{is_lt}
 use Rattle.pl_normal.specs.StepOrder.{step_cmp}
@@ -65,6 +65,7 @@ use Rattle.pl_normal.proofs.Asking.{definition}
 use Rattle.pl_gen.proofs.Turning.{later_more, past_last, over_steps, none_behind, never_turn, once_turn}
 use Rattle.pl_gen.proofs.Turning.{rows_turn, rows_for, rows_turn_of, once_turn_of, past_turn, once_past}
 use Rattle.pl_gen.proofs.SchemaRows.{filter_agrees, late_filter}
+use Rattle.std.proofs.lemmas.Option.{same_Some}
 
 -- ---- the values of the classes
 
@@ -701,9 +702,6 @@ next_place p place taken initial t first before after low (none, (number, step))
       omega (arith, from, rise),
     )
 
-same_schema : (x y : Schema) → Some x ≡ Some y → x ≡ y
-same_schema x y e = cc
-
 pub key_compared : (task normal : Task) (number : ℕ) (schema s : Schema) (args written : List ℕ) (b : Bool)
     (o : Ordering) → slice_get task.schemas number ≡ Some schema → slice_get task.schemas number ≡ Some s
     → normal ≡ task → written ≡ args_under schema (slice_index args) → b ≡ is_lt o →
@@ -711,7 +709,7 @@ pub key_compared : (task normal : Task) (number : ℕ) (schema s : Schema) (args
     → b ≡ is_above task (step_with number args) (step_under number s (slice_index args))
 key_compared task normal number schema s args written b o found at same written_is is compared =
     let own : written ≡ args_under s (slice_index args) = written_is
-    ∙ ap (λ x. args_under x (slice_index args)) (same_schema schema s (sym found ∙ at)) in
+    ∙ ap (λ x. args_under x (slice_index args)) (same_Some schema s (sym found ∙ at)) in
     is ∙ (ap is_lt compared
     ∙ λ i. is_lt (step_cmp (same i) (step_with number args) (step_with number (own i))))
 
@@ -807,7 +805,7 @@ entry_more task s schemas i entries after e schema same low at are made is = rec
       | inr (inl end) ↦ (
           let many = are.many in
           let place : k ≡ i = end ∙ many in
-          let schema_is : schema ≡ x = same_schema schema x
+          let schema_is : schema ≡ x = same_Some schema x
           (sym own ∙ (ap (slice_get task.schemas) (sym place) ∙ found)) in
           let entry_is : e ≡ f = same_entry e f
           (sym (at_end entries e) ∙ (ap (slice_get (entries ++ e ∷ [])) (sym end) ∙ here)) in

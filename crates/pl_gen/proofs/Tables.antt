@@ -1,10 +1,10 @@
 -- The reduced tables of a schema's query, and how many probes they take.
-use Rattle.std.proofs.Common.{◌≡◌, ℕ, ◌+◌, ◌-◌, ◌*◌, ◌<◌, ◌≤◌, ◌↔◌, inl, inr, suc, IsTrue, List, length, map}
-use Rattle.std.proofs.Common.{get_or, Option, sym, ◌∙◌, ap, subst, arith, Contains, Result, Ok, Err}
+use Rattle.std.proofs.Common.{◌≡◌, ℕ, ◌+◌, ◌-◌, ◌*◌, ◌<◌, ◌≤◌, ◌↔◌, suc, IsTrue, List, length}
+use Rattle.std.proofs.Common.{get_or, Option, sym, ◌∙◌, ap, subst, arith, Result, Ok, Err}
 use Rattle.std.specs.Prelude.{IfOk}
 use Rattle.std.specs.declared.alloc.AllocError.{AllocError}
 use Rattle.std.proofs.lemmas.List.{length-map, length-append}
-use Rattle.std.proofs.lemmas.List.Elements.{All-contains, Contains-get_or, Contains-append_cases}
+use Rattle.std.proofs.lemmas.List.Elements.{Contains-get_or}
 use Rattle.pl_task.specs.declared.data.Schema.{Schema}
 use Rattle.pl_task.specs.declared.task.Task.{Task}
 use Rattle.pl_task.specs.States.{State}
@@ -14,7 +14,6 @@ use Rattle.pl_hyper.specs.Ears.{Removal, IsWalkable, leaving_order}
 use Rattle.pl_hyper.proofs.Removals.{IsWalkable-removal}
 use Rattle.pl_join.specs.Relation.{Assignment, ClassRows, HoldsAll}
 use Rattle.pl_join.proofs.Assignments.{few_classes}
-use Rattle.pl_join.proofs.Members.{Contains-from_map}
 use Rattle.pl_reduce.specs.Nodes.{ReducedJoin}
 use Rattle.pl_reduce.specs.Passes.{total_rows}
 use Rattle.pl_reduce.specs.Plan.{AreColumns}
@@ -31,6 +30,9 @@ use Rattle.pl_normal.specs.Recipes.{IsRecipeFor, AreNodesAt}
 use Rattle.pl_normal.proofs.Removing.{ear_removal-edges, ear_removal-is}
 use Rattle.pl_gen.specs.Entries.{AreTablesFor}
 use Rattle.pl_gen.specs.Measures.{close_probes}
+use Rattle.pl_normal.proofs.Leaving.{ears_of, leaving_within}
+use Rattle.std.proofs.Math.Nat.{mul-le-mul_right}
+use Rattle.std.proofs.Math.Nat.{mul-le-mul_left}
 
 -- ---- the tables
 
@@ -68,21 +70,6 @@ tables_ok task schema s t join given (Err e) is same classes columns reduction n
 
 -- ---- the nodes are no more than the edges
 
-abbrev ears_of : Removal → List ℕ
-ears_of plan = map (λ (ear : Ear). ear.edge) plan.removed
-
-leaving_within : (plan : Removal) → IsWalkable plan → (e : ℕ) → Contains (leaving_order plan) e →
-    e < length plan.edges
-leaving_within plan walkable e c = elim (Contains-append_cases (ears_of plan) plan.core e c) [
-  | inl removed ↦ of_ear (Contains-from_map (λ (ear : Ear). ear.edge) plan.removed e removed)
-  | inr stays ↦ All-contains (λ x. x < length plan.edges) plan.core e walkable.core_is_edges stays
-]
-  where
-    of_ear : (ear : Ear) × Contains plan.removed ear × (ear.edge ≡ e) → e < length plan.edges
-    of_ear (ear, among, same) = subst (λ x. x < length plan.edges) same
-        (All-contains (λ (x : Ear). x.edge < length plan.edges) plan.removed ear walkable.ears_are_edges
-        among)
-
 leaving_few : (schema : Schema) (plan : Removal) → IsWalkable plan → plan.edges ≡ sets_of (edges_of schema) →
     length plan.removed + length plan.core ≤ length (edges_of schema)
 leaving_few schema plan walkable edges =
@@ -109,12 +96,6 @@ nodes_few schema plan is some =
 
 -- ---- the probes
 
-few_times : (n a b : ℕ) → a ≤ b → n * a ≤ n * b
-few_times n a b h = grind arith
-
-times_few : (n m r : ℕ) → n ≤ m → n * r ≤ m * r
-times_few n m r h = grind arith
-
 both_parts : (l n r : ℕ) → (3 * n + 2 * l) * r ≡ 2 * l * r + 3 * n * r
 both_parts l n r = grind arith
 
@@ -133,10 +114,10 @@ one_less n r = ap (λ k. r + k * r) (same n) ∙ more n r
 counted : (start first last l n removed rows most : ℕ) → first ≤ start + (1 + 2 * l) * most → rows ≤ most →
     last ≤ first + (3 * suc removed - 1) * rows → suc removed ≤ n → last ≤ start + (3 * n + 2 * l) * most
 counted start first last l n removed rows most made few reduced many =
-    let down = few_times (3 * suc removed - 1) rows most few in
+    let down = mul-le-mul_left {m = rows} {n = most} (3 * suc removed - 1) few in
     let own = own_parts l most in
     let nodes = one_less removed most in
-    let up = times_few (3 * suc removed) (3 * n) most (omega (arith, many)) in
+    let up = mul-le-mul_right {m = 3 * suc removed} {n = 3 * n} most (omega (arith, many)) in
     let whole = both_parts l n most in omega (arith, made, reduced, down, own, nodes, up, whole)
 
 pub tables_taken : (task : Task) (schema : Schema) (s t : State) (join : FixedJoin)

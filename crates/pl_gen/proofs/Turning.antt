@@ -35,6 +35,7 @@ use Rattle.pl_gen.proofs.SchemaRows.{rows_are_steps, late_filters_are_last, fals
 use Rattle.pl_gen.proofs.SchemaRows.{no_edge_is_one_step, no_class, row_long, step_at-is}
 use Rattle.pl_gen.proofs.SchemaRows.{steps_come_by_schemas}
 use Rattle.pl_gen.proofs.Above.{steps_above_are_rows_past, steps_above_come_by_schemas}
+use Rattle.std.proofs.lemmas.Option.{same_Some}
 
 -- ---- the answers of the reduced join are the local answers
 
@@ -105,15 +106,12 @@ rows_turn p number schema cursor found guards tables answers =
     (late_filters_are_last p.task number schema (state_of_prepared p) cursor.left found
     (join_rows p.task schema (state_of_prepared p) cursor.join cursor.left guards tables answers)))
 
-same_schema : (x y : Schema) → Some x ≡ Some y → x ≡ y
-same_schema x y e = cc
-
 pub rows_for : (task : Task) (number : ℕ) (schema : Schema) (s : State) (passes : List ℕ → Bool)
     (cursor : CursorView) → slice_get task.schemas number ≡ Some schema
     → AreTablesFor task schema s cursor.join → AreAnswersPast cursor.join passes cursor.left
     → AreRowsFor task number cursor
 rows_for task number schema s passes cursor found tables answers = record {
-  classes = λ other at. tables.classes ∙ ap classes_in_order (same_schema schema other (sym found ∙ at));
+  classes = λ other at. tables.classes ∙ ap classes_in_order (same_Some schema other (sym found ∙ at));
   wide = rows_wide cursor.join passes cursor.left answers;
 }
 
@@ -129,7 +127,7 @@ pub once_turn_of : (task : Task) (number : ℕ) (schema : Schema) → slice_get 
     → number < length task.schemas → edges_of schema ≡ [] → IsTurnOf task number turn.Once
 once_turn_of task number schema found low edges = record {
   in_range = λ _. low;
-  once = λ other e at. subst (λ x. classes_in_order x ≡ []) (same_schema schema other (sym found ∙ at))
+  once = λ other e at. subst (λ x. classes_in_order x ≡ []) (same_Some schema other (sym found ∙ at))
       (no_class schema edges);
   rows = λ other e. absurd (cc);
 }

@@ -66,7 +66,8 @@ fn reduced_tables<'n, L: Ledger>(
     requires query { IsQuery query.now }
     requires recipe { IsRecipeFor query.now.normal.now query.now.schema.now recipe.now }
     requires some { 0 < length (edges_of query.now.schema.now) }
-    ensures tables { IfOk result (AreTablesFor query.now.normal.now query.now.schema.now (state_asked query.now)) }
+    ensures tables { IfOk result (AreTablesFor query.now.normal.now query.now.schema.now
+        (state_asked query.now)) }
     ensures cost { IfOk result (λ _. IsAcyclic (sets_of (edges_of query.now.schema.now))
         → steps.new ≤ steps.old
         + close_probes query.now.normal.now (state_asked query.now) query.now.schema.now) }

@@ -51,10 +51,8 @@ use Rattle.pl_normal.proofs.SlotLemmas.{same_slot, fixed_slot, parameter_value, 
 use Rattle.pl_normal.proofs.SlotLemmas.{fixed_values, args_under-length, parameter_slots-length, class_at}
 use Rattle.pl_normal.proofs.SlotLemmas.{slot_is}
 use Rattle.pl_normal.proofs.Joined.{class_of-least, class_joined}
-
-and_true : (b : Bool) → (b && true) ≡ b
-and_true true = refl
-and_true false = refl
+use Rattle.std.proofs.lemmas.Option.{same_Some}
+use Rattle.std.proofs.Math.Bool.{and-true}
 
 -- ---- guards
 
@@ -64,8 +62,8 @@ known_met s false = refl
 
 wanted_met : (s : State) (wanted : Bool) (atom : Atom)
     → list_all (meets_guard s) (wanted_guard wanted atom ∷ []) ≡ is_as_wanted wanted (s atom)
-wanted_met s true atom = and_true (s atom)
-wanted_met s false atom = and_true (not (s atom))
+wanted_met s true atom = and-true (s atom)
+wanted_met s false atom = and-true (not (s atom))
 
 guard_by : (task : Task) (s : State) (wanted : Bool) (atom : Atom) (b : Bool) → KeepsStatic task s
     → is_fluent task.schemas atom.predicate ≡ b →
@@ -111,8 +109,8 @@ positive_by : (task : Task) (schema : Schema) (s : State) (f : Assignment) (pred
     && (list_all (meets_guard s)
     (if b then atom_guard task true (row_atom predicate (map fixed_value slots)) else []) && true))
 positive_by task schema s f predicate slots true keeps e =
-    sym (and_true _ ∙ fixed_row task s f true predicate slots keeps e)
-positive_by task schema s f predicate slots false keeps e = sym (and_true _ ∙ and_true _)
+    sym (and-true _ ∙ fixed_row task s f true predicate slots keeps e)
+positive_by task schema s f predicate slots false keeps e = sym (and-true _ ∙ and-true _)
 
 negative_by : (task : Task) (s : State) (f : Assignment) (predicate : ℕ) (slots : List Slot) (b : Bool)
     → KeepsStatic task s → are_fixed slots ≡ b →
@@ -121,11 +119,11 @@ negative_by : (task : Task) (s : State) (f : Assignment) (predicate : ℕ) (slot
     (if b then atom_guard task false (row_atom predicate (map fixed_value slots)) else [])
     && list_all (meets_sieve s f) (if b then [] else sieve.Absent predicate slots ∷ []))
 negative_by task s f predicate slots true keeps e =
-    sym (and_true _ ∙ fixed_row task s f false predicate slots keeps e)
-negative_by task s f predicate slots false keeps e = sym (and_true _)
+    sym (and-true _ ∙ fixed_row task s f false predicate slots keeps e)
+negative_by task s f predicate slots false keeps e = sym (and-true _)
 
 fixed_equality : (s : State) (x y : ℕ) → (x == y) ≡ (list_all (meets_guard s) (known (x == y)) && true)
-fixed_equality s x y = sym (and_true _ ∙ known_met s (x == y))
+fixed_equality s x y = sym (and-true _ ∙ known_met s (x == y))
 
 -- an equality of two parameters
 one_slot : (s : State) (f : Assignment) (slot : Slot)
@@ -156,10 +154,10 @@ right_fixed s f b x y e =
 unequal_met : (s : State) (f : Assignment) (a b : Slot)
     → not (slot_value f a == slot_value f b) ≡ (list_all (meets_guard s) (equality_guard false a b)
     && list_all (meets_sieve s f) (unequal_over a b))
-unequal_met s f (Fixed x) (Fixed y) = sym (and_true _ ∙ known_met s (not (x == y)))
-unequal_met s f (Fixed x) (Class d) = sym (and_true _)
-unequal_met s f (Class c) (Fixed y) = sym (and_true _)
-unequal_met s f (Class c) (Class d) = sym (and_true _)
+unequal_met s f (Fixed x) (Fixed y) = sym (and-true _ ∙ known_met s (not (x == y)))
+unequal_met s f (Fixed x) (Class d) = sym (and-true _)
+unequal_met s f (Class c) (Fixed y) = sym (and-true _)
+unequal_met s f (Class c) (Class d) = sym (and-true _)
 
 -- the two terms of an equality of the condition
 equal_met : (schema : Schema) (s : State) (f : Assignment) (objects : ℕ) (a b : Term)
@@ -221,7 +219,7 @@ pub kind_met : (task : Task) (schema : Schema) (s : State) (f : Assignment) (p :
     ≡ (list_all (meets_edge task schema s f) (type_edge p slot)
     && list_all (meets_guard s) (type_guard task (types_at schema.parameters p) slot))
 kind_met task schema s f p (Fixed o) = sym (known_met s (has_some_type task (types_at schema.parameters p) o))
-kind_met task schema s f p (Class c) = sym (and_true _ ∙ and_true _)
+kind_met task schema s f p (Class c) = sym (and-true _ ∙ and-true _)
 
 typed_rest : (task : Task) (p : Parameter) (ps : List Parameter) (o : ℕ) (os : List ℕ) →
     (length os ≡ length ps)
@@ -263,8 +261,8 @@ at_typed task (p ∷ ps) (o ∷ os) many h =
 placed_or_late : (edges : List Edge) (p : Sieve → Bool) (x : Sieve) (place : Option ℕ) → home edges x ≡ place
     → list_all (λ (placed : Placed). p placed.sieve) (local_at place x) ≡ true
     → list_all p (late_at place x) ≡ true → p x ≡ true
-placed_or_late edges p x None e h k = sym (and_true (p x)) ∙ k
-placed_or_late edges p x (Some n) e h k = sym (and_true (p x)) ∙ h
+placed_or_late edges p x None e h k = sym (and-true (p x)) ∙ k
+placed_or_late edges p x (Some n) e h k = sym (and-true (p x)) ∙ h
 
 all_sieves : (edges : List Edge) (p : Sieve → Bool) (xs : List Sieve)
     → list_all (λ (placed : Placed). p placed.sieve) (local_among edges xs) ≡ true
@@ -674,16 +672,13 @@ fixing_met s args objects parameters (literal.Equal (term.Object a) (term.Parame
       | inr r ↦ absurd (Contains-nil g r)
     ]
 
-some_object : (a b : ℕ) → Some a ≡ Some b → a ≡ b
-some_object a b h = cc
-
 object_by : (classes : List ℕ) (f : Fixing) (fs : List Fixing) (c o : ℕ) (b : Bool)
     → (slice_index classes f.parameter == c) ≡ b →
     (object_of classes fs c ≡ Some o → (g : Fixing) × Contains fs g × (slice_index classes g.parameter ≡ c)
     × (g.object ≡ o)) → (if b then Some f.object else object_of classes fs c) ≡ Some o →
     (g : Fixing) × Contains (f ∷ fs) g × (slice_index classes g.parameter ≡ c) × (g.object ≡ o)
 object_by classes f fs c o true t next h =
-    (f, Contains-cons_first f fs, eqb-true (slice_index classes f.parameter) c t, some_object f.object o h)
+    (f, Contains-cons_first f fs, eqb-true (slice_index classes f.parameter) c t, same_Some f.object o h)
 object_by classes f fs c o false t next h = let (g, held, class, object) = next h in
     (g, Contains-cons_rest f fs g held, class, object)
 

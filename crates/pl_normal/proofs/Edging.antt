@@ -21,6 +21,7 @@ use Rattle.pl_normal.specs.Query.{is_in_source, meets_edge, meets_sieve, values_
 use Rattle.pl_normal.specs.Queries.{IsEdgeOf, IsSieveOver, IsSieveOf, IsRelationAt, edge_at, lets_pass}
 use Rattle.pl_normal.specs.Queries.{meets_at}
 use Rattle.pl_normal.proofs.Forms.{SchemaOf, local_from, local_sieve_of, home_is, sieve_over, no_edge}
+use Rattle.std.proofs.Math.Bool.{and-true}
 
 -- the relation is over the edge's classes and has passed these of the local filters
 pub record IsSieved (task : Task) (schema : Schema) (s : State) (edge : Edge) (e : ℕ) (passed : List Placed)
@@ -42,10 +43,6 @@ and_split a b = (
   λ h. is_true (a && b) (and_from a b (true_is a h.0) (true_is b h.1)),
 )
 
-pub and_true : (b : Bool) → (b && true) ≡ b
-and_true true = refl
-and_true false = refl
-
 and_assoc : (a b c : Bool) → ((a && b) && c) ≡ (a && (b && c))
 and_assoc true b c = refl
 and_assoc false b c = refl
@@ -60,10 +57,10 @@ selected task schema s e edge rows relation is source classes selection = record
   rising = classes.rising;
   classes = λ c. (λ h. (is.set c).1 ((classes.members c).0 h), λ h. (classes.members c).1 ((is.set c).0 h));
   rows = λ f. (
-    λ h. subst IsTrue (sym (and_true (meets_edge task schema s f edge)))
+    λ h. subst IsTrue (sym (and-true (meets_edge task schema s f edge)))
         ((source (values_of f edge.slots)).0 ((selection f).0 h)),
     λ h. (selection f).1 ((source (values_of f edge.slots)).1
-        (subst IsTrue (and_true (meets_edge task schema s f edge)) h)),
+        (subst IsTrue (and-true (meets_edge task schema s f edge)) h)),
   );
 }
 
@@ -77,7 +74,7 @@ one_more task schema s f edge e i local d low =
     ap (λ xs. meets_edge task schema s f edge && list_all (lets_pass s f e) xs) (take_more local i d low)
     ∙ (ap (λ b. meets_edge task schema s f edge && b) (list_all-append (lets_pass s f e) (take i local)
     (get_or local i d ∷ []) ∙ ap (λ b. list_all (lets_pass s f e) (take i local) && b)
-    (and_true (lets_pass s f e (get_or local i d))))
+    (and-true (lets_pass s f e (get_or local i d))))
     ∙ sym (and_assoc (meets_edge task schema s f edge) (list_all (lets_pass s f e) (take i local))
     (lets_pass s f e (get_or local i d))))
 
@@ -138,7 +135,7 @@ passed_by task schema s edge e i local placed old new low at is other same = rec
         (take (i + 1) local)) ≡ before f
     one f = one_more task schema s f edge e i local placed low ∙
         (ap (λ b. before f && b) (ap (lets_pass s f e) (sym at) ∙ elsewhere s f e placed false other refl) ∙
-        and_true (before f))
+        and-true (before f))
 
 -- the filter is over the classes of the relation
 pub filter_over : (task : Task) (schema : Schema) (s : State) (edges : List Edge) (edge : Edge) (e i : ℕ)

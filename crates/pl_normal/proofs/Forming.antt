@@ -55,7 +55,7 @@ use Rattle.pl_normal.proofs.Loops.{range_more}
 use Rattle.pl_normal.proofs.SlotLemmas.{slot_of_class, slot_is, parameter_slots-length}
 use Rattle.pl_normal.proofs.SlotLemmas.{parameter_classes-length}
 use Rattle.pl_normal.proofs.Answering.{object_from}
-use Rattle.pl_normal.proofs.Ordered.{parameter_order-is}
+use Rattle.pl_normal.proofs.Ordered.{parameter_order-is, same_class}
 use Rattle.pl_normal.proofs.Listing.{row_less, row_rest, order_at}
 
 -- ---- literals of a schema
@@ -155,9 +155,6 @@ pub slots_few : (schema : Schema) (slots : List Slot) → length schema.paramete
     → slots ≡ parameter_slots schema → length slots ≤ 64
 slots_few schema slots few e = let long = slots_many schema slots e in omega arith
 
-same_class : (c d : ℕ) → Class c ≡ Class d → c ≡ d
-same_class c d h = cc
-
 same_fixed : (c d : ℕ) → Fixed c ≡ Fixed d → c ≡ d
 same_fixed c d h = cc
 
@@ -209,7 +206,7 @@ literals_below_at predicates objects n m ls own e k all = literals_below predica
 
 -- ---- few edges
 
-flat_short : {X Y : Type 0} (f : X → List Y) (xs : List X) → ((x : X) → length (f x) ≤ 1)
+pub flat_short : {X Y : Type 0} (f : X → List Y) (xs : List X) → ((x : X) → length (f x) ≤ 1)
     → length (flat_map f xs) ≤ length xs
 flat_short f [] h = omega arith
 flat_short f (x ∷ xs) h =
@@ -217,7 +214,7 @@ flat_short f (x ∷ xs) h =
     let rest = flat_short f xs h in
     let long = length-append (f x) (flat_map f xs) in omega arith
 
-if_short : {Y : Type 0} (b : Bool) (y : Y) → length (if b then [] else y ∷ []) ≤ 1
+pub if_short : {Y : Type 0} (b : Bool) (y : Y) → length (if b then [] else y ∷ []) ≤ 1
 if_short true y = omega arith
 if_short false y = omega arith
 
@@ -227,7 +224,7 @@ literal_short slots (literal.NotAtom a) = omega arith
 literal_short slots (literal.Equal a b) = omega arith
 literal_short slots (literal.NotEqual a b) = omega arith
 
-type_short : (p : ℕ) (slot : Slot) → length (type_edge p slot) ≤ 1
+pub type_short : (p : ℕ) (slot : Slot) → length (type_edge p slot) ≤ 1
 type_short p (Fixed o) = omega arith
 type_short p (Class c) = omega arith
 

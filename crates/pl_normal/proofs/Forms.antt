@@ -48,6 +48,7 @@ use Rattle.pl_normal.proofs.Forming.{slots_below, slots_within}
 use Rattle.pl_normal.proofs.Ordered.{set_bits}
 use Rattle.pl_hyper.proofs.Bits.{and_within}
 use Rattle.pl_normal.specs.Queries.{IsEdgeOf, IsSieveOf, IsSieveOver, IsGuardOf}
+use Rattle.std.proofs.lemmas.Option.{same_Some}
 
 abbrev pub SchemaOf : Task → Schema → Type 0
 SchemaOf task schema = IsSchemaOf task.types task.objects task.predicates schema
@@ -328,15 +329,12 @@ local_sieve_of task schema placed is held = sieve_here task schema placed.sieve 
 
 -- ---- the home of a local filter
 
-some_same : (a b : ℕ) → Some a ≡ Some b → a ≡ b
-some_same a b e = cc
-
 position_by : {X : Type 0} (t : X → Bool) (i : ℕ) (x : X) (xs : List X) (k : ℕ) (d : X) (b : Bool) →
     t x ≡ b → cond b (Some i) (position_from t (i + 1) xs) ≡ Some k →
     (position_from t (i + 1) xs ≡ Some k → (j : ℕ) × (k ≡ i + 1 + j) × (j < length xs) ×
     (t (get_or xs j d) ≡ true)) →
     (j : ℕ) × (k ≡ i + j) × (j < length (x ∷ xs)) × (t (get_or (x ∷ xs) j d) ≡ true)
-position_by t i x xs k d true is e next = (0, (let same = some_same i k e in omega arith), omega arith, is)
+position_by t i x xs k d true is e next = (0, (let same = same_Some i k e in omega arith), omega arith, is)
 position_by t i x xs k d false is e next = let (j, at, low, passes) = next e in
     (suc j, omega arith, omega arith, passes)
 

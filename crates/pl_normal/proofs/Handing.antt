@@ -85,6 +85,18 @@ fixed_are task schema s share plan entries is some are =
       over = over_nodes task schema s share entries are;
     })
 
+-- the recipe knows which nodes no state changes
+known_fixed : (b : Bool) (P : ClassRows → Type 0) (x : Option ClassRows) → IsWanted b P x → is_some x ≡ b
+known_fixed b P None h = sym h
+known_fixed b P (Some r) h = sym h.0
+
+pub recipe_knows : (task : Task) (schema : Schema) (recipe : FixedJoin) (k : ℕ) →
+    IsRecipeFor task schema recipe → k < suc (length (plan_of schema).removed) →
+    is_some (option_at recipe.fixed k) ≡ is_fixed_node task schema k
+recipe_knows task schema recipe k is low =
+    known_fixed (is_fixed_node task schema k) (IsFixedRelation task schema k) (option_at recipe.fixed k)
+    (is.each k None (subst (λ n. k < n) (sym is.many) low))
+
 -- ---- the others
 
 one_each : (b : Bool) (P Q : ClassRows → Type 0) (x y : Option ClassRows) → IsWanted b P x →

@@ -8,6 +8,7 @@ use Rattle.pl_rows.proofs.Canonical.{Contains-cons_cases, Contains-cons_first, C
 use Rattle.pl_rows.proofs.Canonical.{Contains-nil}
 use Rattle.pl_normal.specs.Classes.{Equality, AreEquated, IsChain, AreJoined, are_joined, first_that}
 use Rattle.pl_normal.specs.Classes.{class_of}
+use Rattle.std.proofs.lemmas.Bool.{or_right}
 
 -- ---- chains
 
@@ -61,10 +62,6 @@ three_ways p q r s t h = elim (or_cases p ((q && r) || (s && t)) h) [
   ])
 ]
 
-or_second : (x y : Bool) → y ≡ true → (x || y) ≡ true
-or_second true y h = refl
-or_second false y h = h
-
 or_first : (x y : Bool) → x ≡ true → (x || y) ≡ true
 or_first x y h = ap (λ b. b || y) h
 
@@ -100,15 +97,15 @@ direct_way e es a b h = or_first (are_joined es a b) _ h
 forth_way : (e : Equality) (es : List Equality) (a b : ℕ) → are_joined es a e.left ≡ true
     → are_joined es e.right b ≡ true → are_joined (e ∷ es) a b ≡ true
 forth_way e es a b h k =
-    or_second (are_joined es a b) _
+    or_right (are_joined es a b) _
     (or_first (are_joined es a e.left && are_joined es e.right b) _
     (and_from (are_joined es a e.left) (are_joined es e.right b) h k))
 
 back_way : (e : Equality) (es : List Equality) (a b : ℕ) → are_joined es a e.right ≡ true
     → are_joined es e.left b ≡ true → are_joined (e ∷ es) a b ≡ true
 back_way e es a b h k =
-    or_second (are_joined es a b) _
-    (or_second (are_joined es a e.left && are_joined es e.right b) _
+    or_right (are_joined es a b) _
+    (or_right (are_joined es a e.left && are_joined es e.right b) _
     (and_from (are_joined es a e.right) (are_joined es e.left b) h k))
 
 -- what is joined by the first equality, and how its other side goes on

@@ -37,7 +37,7 @@ first_apart : (x : ℕ) (xs : List ℕ) → AllPairs (λ a b. a ≢ b) (x ∷ xs
 first_apart x xs apart (k, low, at) = apart 0 (suc k) x (omega arith) (omega (arith, low)) (sym at)
 
 -- numbers that differ and are among others weigh no more than these
-sum_into : (w : ℕ → ℕ) (xs ys : List ℕ) → AllPairs (λ a b. a ≢ b) xs →
+pub sum_into : (w : ℕ → ℕ) (xs ys : List ℕ) → AllPairs (λ a b. a ≢ b) xs →
     ((x : ℕ) → Contains xs x → Contains ys x) → sum_by w xs ≤ sum_by w ys
 sum_into w [] ys apart held = omega arith
 sum_into w (x ∷ xs) ys apart held = by (taken_out ys x (held x (Contains-cons_first x xs)))
@@ -71,10 +71,10 @@ sum_numbers v w a (x ∷ xs) same =
     moved : (n k : ℕ) → n + 1 + k ≡ n + suc k
     moved n k = omega arith
 
-abbrev ears_of : Removal → List ℕ
+abbrev pub ears_of : Removal → List ℕ
 ears_of plan = map (λ (ear : Ear). ear.edge) plan.removed
 
-leaving_within : (plan : Removal) → IsWalkable plan → (e : ℕ) → Contains (leaving_order plan) e →
+pub leaving_within : (plan : Removal) → IsWalkable plan → (e : ℕ) → Contains (leaving_order plan) e →
     e < length plan.edges
 leaving_within plan walkable e c = elim (Contains-append_cases (ears_of plan) plan.core e c) [
   | inl removed ↦ of_ear (Contains-from_map (λ (ear : Ear). ear.edge) plan.removed e removed)

@@ -25,9 +25,9 @@ mod Numbers
 pub mod KindLemmas
 -- the functions that make relations and recipes
 mod Pushing
-mod Relating
+pub mod Relating
 mod Sieving
-mod Unchanging
+pub mod Unchanging
 mod Sharing
 mod NodeRows
 mod Handing

@@ -12,6 +12,7 @@ use Rattle.std.proofs.lemmas.List.Elements.{All-push}
 use Rattle.std.proofs.lemmas.Map.Lookups.{exact_bytes}
 use Rattle.std.proofs.lemmas.Map.Views.{tells_apart}
 use Rattle.pl_normal.specs.Kinds.{lists_of, list_at, list_cmp, IsNumberOf, IsNumbering, AreKnown, GoesOn}
+use Rattle.std.proofs.lemmas.Option.{same_Some}
 
 -- a borrowed list at its place
 pub list_here : (lists : List (Bor (List ℕ))) (place : ℕ) (list d : Bor (List ℕ)) → place < length lists
@@ -46,9 +47,6 @@ number_again lists known firsts place number list d are h at found = record {
 
 -- ---- a new number
 
-same_some : (a b : ℕ) → Some a ≡ Some b → a ≡ b
-same_some a b e = cc
-
 pub known_more : (lists : List (Bor (List ℕ))) (known new : BTreeMap (Bor (List ℕ)) ℕ) (firsts after : List ℕ)
     (place number : ℕ) (list d : Bor (List ℕ)) → AreKnown (lists_of lists) known firsts → place < length lists
     → list ≡ get_or lists place d →
@@ -75,7 +73,7 @@ known_more lists known new firsts after place number list d are h at e n u = rec
   where
     here : (q : Bor (List ℕ)) (m : ℕ) → get list_cmp new q ≡ Some m → is_at (list_cmp list) q ≡ true
         → m ≡ number
-    here q m found hit = same_some m number
+    here q m found hit = same_Some m number
         (sym found ∙ (u q ∙ cond-true (is_at (list_cmp list) q) (Some number) (get list_cmp known q) hit))
 
     before : (q : Bor (List ℕ)) (m : ℕ) → get list_cmp new q ≡ Some m → is_at (list_cmp list) q ≡ false

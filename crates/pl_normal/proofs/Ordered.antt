@@ -1,6 +1,6 @@
 -- The unfixed classes of a schema in class order, and the order of its parameters.
 use Rattle.std.proofs.Common.{◌≡◌, ◌≢◌, ℕ, ◌<◌, ◌≤◌, ◌^◌, zero, suc, ◌==◌, ◌↔◌, ◌⊎◌, inl, inr, Bool, true}
-use Rattle.std.proofs.Common.{false, not, if◌then◌else◌, List, [], ◌∷◌, ◌++◌, length, map, reverse, get_or}
+use Rattle.std.proofs.Common.{false, not, if◌then◌else◌, List, [], ◌∷◌, ◌++◌, length, reverse, get_or}
 use Rattle.std.proofs.Common.{Option, Some, None, refl, sym, ◌∙◌, ap, subst, arith, Contains, eqb-true}
 use Rattle.std.proofs.Common.{eq-eqb}
 use Rattle.std.specs.Prelude.{slice_index}
@@ -18,12 +18,10 @@ use Rattle.std.proofs.lemmas.Cmp.{nat_eq_equiv}
 use Rattle.std.proofs.lemmas.Nat.Bits.{bit_at-pow_same, bit_at-pow_other}
 use Rattle.pl_rows.proofs.Canonical.{Contains-cons_cases, Contains-cons_first, Contains-cons_rest}
 use Rattle.pl_rows.proofs.Canonical.{Contains-nil}
-use Rattle.pl_hyper.specs.declared.ear.Ear.{Ear}
 use Rattle.pl_hyper.specs.Ears.{Removal, IsRemoval}
 use Rattle.pl_hyper.specs.ClassOrder.{classes_of, walk_order, class_order}
 use Rattle.pl_hyper.proofs.Members.{same_or_not, range_contains, within_range, range_rises}
 use Rattle.pl_hyper.proofs.Orders.{first_contains, within_first, first_once, in_classes, classes_contain}
-use Rattle.pl_hyper.proofs.Removals.{IsWalkable-removal}
 use Rattle.pl_hyper.proofs.Bits.{no_bit, or_bit}
 use Rattle.pl_task.specs.declared.data.Literal.{Literal}
 use Rattle.pl_task.specs.declared.data.Literal.TheVariants as literal
@@ -48,13 +46,14 @@ use Rattle.pl_normal.proofs.Lists.{one_passes, passing_one}
 use Rattle.pl_normal.proofs.Removing.{ear_removal-is, ear_removal-edges}
 use Rattle.pl_normal.proofs.SlotLemmas.{slot_of_class, slot_is, parameter_slots-length}
 use Rattle.pl_normal.proofs.Answering.{type_edge_among}
+use Rattle.pl_hyper.proofs.ClassOrders.{walk_contains}
 
 -- ---- sets of classes
 
 fixed_class : (o c : ℕ) → Fixed o ≡ Class c → ⊥
 fixed_class o c h = cc
 
-same_class : (c d : ℕ) → Class c ≡ Class d → c ≡ d
+pub same_class : (c d : ℕ) → Class c ≡ Class d → c ≡ d
 same_class c d h = cc
 
 no_other : (c d : ℕ) → c ≢ d → bit_at (2 ^ d) c ≡ 1 → ⊥
@@ -227,18 +226,6 @@ Contains-reverse (y ∷ xs) x h = subst (λ zs. Contains zs x) (sym (reverse-app
           (subst (Contains (y ∷ [])) e (Contains-cons_first y []))
       | inr r ↦ Contains-append_left (reverse xs) (y ∷ []) x (Contains-reverse xs x r)
     ])
-
--- each edge is walked
-walk_contains : (plan : Removal) → IsRemoval plan → (e : ℕ) → e < length plan.edges
-    → Contains (walk_order plan) e
-walk_contains plan is e h =
-    elim (Contains-append_cases (map (λ (ear : Ear). ear.edge) plan.removed) plan.core e
-    ((IsWalkable-removal plan is).all_leave e h)) [
-      | inl removed ↦ Contains-append_right plan.core (reverse (map (λ (ear : Ear). ear.edge) plan.removed)) e
-          (Contains-reverse (map (λ (ear : Ear). ear.edge) plan.removed) e removed)
-      | inr core ↦ Contains-append_left plan.core (reverse (map (λ (ear : Ear). ear.edge) plan.removed)) e
-          core
-    ]
 
 order_contains : (plan : Removal) (e c : ℕ) → IsRemoval plan → e < length plan.edges → c < 64
     → bit_at (slice_index plan.edges e) c ≡ 1 → Contains (class_order plan) c

@@ -17,14 +17,11 @@ use Rattle.pl_normal.specs.EarRemoval.{serves, is_parent, ear_or, first_ear_amon
 use Rattle.pl_normal.specs.EarRemoval.{ears_removed, ear_removal}
 use Rattle.pl_normal.proofs.Lists.{passes_all, all_pass, found, not_found}
 use Rattle.pl_normal.proofs.Sets.{serves-is}
+use Rattle.std.proofs.lemmas.Bool.{or_right}
 
 abbrev serves_at : List ℕ → ℕ → ℕ → ℕ → Bool
 serves_at edges edge parent other = (other == edge) || serves (slice_index edges edge)
     (slice_index edges other) (slice_index edges parent)
-
-or_second : (x y : Bool) → y ≡ true → (x || y) ≡ true
-or_second true y h = refl
-or_second false y h = h
 
 not_equal : (a b : ℕ) → not (a == b) ≡ true → a ≢ b
 not_equal a b h e = false≢true (ap not (sym (eq-eqb a b e)) ∙ h)
@@ -61,7 +58,7 @@ ear_tested edges remaining edge parent is =
       | inl same ↦ ap
           (λ b. b || serves (slice_index edges edge) (slice_index edges other) (slice_index edges parent))
           (eq-eqb other edge same)
-      | inr d ↦ or_second (other == edge) _
+      | inr d ↦ or_right (other == edge) _
           ((serves-is (slice_index edges edge) (slice_index edges other) (slice_index edges parent)).1
           (λ class a b. is.serves class other c d a b))
     ]))

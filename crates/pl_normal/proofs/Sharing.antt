@@ -11,8 +11,8 @@ use Rattle.pl_join.specs.Relation.{ClassRows}
 use Rattle.pl_normal.specs.declared.nodes.Share.{Share}
 use Rattle.pl_normal.specs.Queries.{IsRelationAt}
 use Rattle.pl_normal.specs.Recipes.{AreOfShare, IsNodeRelation, IsWanted, is_fixed_edge, is_fixed_node}
-use Rattle.pl_normal.specs.Recipes.{plan_of, takes}
-use Rattle.pl_normal.proofs.Edging.{and_true}
+use Rattle.pl_normal.specs.Recipes.{node_edges, plan_of, takes}
+use Rattle.std.proofs.Math.Bool.{and-true}
 use Rattle.pl_normal.proofs.Joins.{no_ear, ear_node}
 use Rattle.pl_normal.proofs.Pushing.{each_pushed}
 
@@ -33,7 +33,7 @@ module _ (task : Task) (schema : Schema) (s : State) (share : Share) where
       (takes share (is_fixed_node task schema (suc i)))
       (IsRelationAt task schema s (get_or ears i d).edge) (IsNodeRelation task schema s (suc i)) x
       (ap (takes share) (ap (λ (e : Ear). is_fixed_edge task schema e.edge) here ∙ sym
-      (and_true (is_fixed_edge task schema (ear_at (plan_of schema) i no_ear).edge))))
+      (and-true (is_fixed_edge task schema (ear_at (plan_of schema) i no_ear).edge))))
       (λ r is. ear_node task schema s i r (subst (λ xs. i < length xs) removed low)
       (subst (λ (e : Ear). IsRelationAt task schema s e.edge r) here is)) h
     where
@@ -48,6 +48,17 @@ module _ (task : Task) (schema : Schema) (s : State) (share : Share) where
   ear_wanted_at i n ears d x removed low next h =
       subst (λ k. IsWanted (takes share (is_fixed_node task schema k)) (IsNodeRelation task schema s k) x)
       (same n i next) (ear_wanted i ears d x removed low h)
+    where
+      same : (n i : ℕ) → n ≡ i + 1 → suc i ≡ n
+      same n i h = omega (arith, h)
+
+  -- the edge of an ear, as those of its node
+  pub ear_edges : (i n : ℕ) (ears : List Ear) (d : Ear) → ears ≡ (plan_of schema).removed →
+      i < length ears → n ≡ i + 1 → (get_or ears i d).edge ∷ [] ≡ node_edges (plan_of schema) n
+  ear_edges i n ears d removed low next =
+      subst (λ k. (get_or ears i d).edge ∷ [] ≡ node_edges (plan_of schema) k) (same n i next)
+      (ap (λ (e : Ear). e.edge ∷ [])
+      (get_or_default ears i d no_ear low ∙ ap (λ xs. get_or xs i no_ear) removed))
     where
       same : (n i : ℕ) → n ≡ i + 1 → suc i ≡ n
       same n i h = omega (arith, h)

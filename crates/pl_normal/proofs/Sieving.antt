@@ -19,6 +19,7 @@ use Rattle.pl_normal.proofs.Edging.{IsSieved, and_split}
 use Rattle.pl_normal.proofs.Few.{AreEdgeRows, rows_within, table_few, relation_few}
 use Rattle.pl_normal.proofs.Forms.{SchemaOf, edge_of, no_edge}
 use Rattle.pl_normal.proofs.Relating.{edge_here}
+use Rattle.std.proofs.Math.Nat.{mul-le-mul_right}
 
 -- ---- the relation of an edge as it is made
 
@@ -77,11 +78,9 @@ pub filter_passed : (first before final i most : ℕ) → before ≤ first + i *
 filter_passed first before final i most old same = let more = times_more i (2 * most) in
     omega (arith, old, same, more)
 
-fewer_times : (n m r : ℕ) → n ≤ m → n * r ≤ m * r
-fewer_times n m r h = grind arith
-
 -- the selection and all filters
 pub edge_taken : (start first after i many local rows most : ℕ) → first ≤ start + rows → rows ≤ most →
     after ≤ first + i * (2 * most) → i ≤ many → many ≡ local → after ≤ start + (most + local * (2 * most))
 edge_taken start first after i many local rows most selected few filters low same = let all =
-    fewer_times i local (2 * most) (omega (arith, low, same)) in omega (arith, selected, few, filters, all)
+    mul-le-mul_right {m = i} {n = local} (2 * most) (omega (arith, low, same)) in
+    omega (arith, selected, few, filters, all)

@@ -4,7 +4,7 @@ use Rattle.std.proofs.Common.{◌≡◌, ℕ, ◌<◌, ◌==◌, ◌&&◌, ◌||
 use Rattle.std.proofs.Common.{◌∷◌, length, get_or, Option, Some, None, refl, sym, ◌∙◌, ap, subst, arith}
 use Rattle.std.proofs.Common.{Contains}
 use Rattle.std.specs.List.{list_all}
-use Rattle.std.proofs.lemmas.Bool.{and_parts, false≢true}
+use Rattle.std.proofs.lemmas.Bool.{and_parts}
 use Rattle.std.proofs.lemmas.List.{get_or_default}
 use Rattle.std.proofs.lemmas.List.Elements.{Contains-get_or}
 use Rattle.pl_rows.specs.Rows.{Rows}
@@ -29,10 +29,7 @@ use Rattle.pl_normal.specs.Recipes.{is_fixed_edge, is_fixed_node, is_missing, ha
 use Rattle.pl_normal.specs.Recipes.{node_edges, plan_of, IsNodeRelation, IsFixedRelation}
 use Rattle.pl_normal.specs.Tables.{AreStatics, IsStatic, row_atom}
 use Rattle.pl_normal.proofs.Forms.{SchemaOf, edge_of, local_sieve_of, no_edge}
-
-not_true : (b : Bool) → not b ≡ true → b ≡ false
-not_true true h = absurd (false≢true h)
-not_true false h = refl
+use Rattle.std.proofs.lemmas.Bool.{not-true}
 
 -- two tests are one on lists that pass a third
 same_all : {X : Type 0} (p q r : X → Bool) (xs : List X) → list_all r xs ≡ true →
@@ -51,7 +48,7 @@ module _ (task : Task) (s t : State) (keeps : KeepsStatic task s) (also : KeepsS
   same_atom : (p : ℕ) (row : List ℕ) → not (is_fluent task.schemas p) ≡ true →
       s (row_atom p row) ≡ t (row_atom p row)
   same_atom p row h =
-      let static = not_true (is_fluent task.schemas p) h in
+      let static = not-true (is_fluent task.schemas p) h in
       keeps (row_atom p row) static ∙ sym (also (row_atom p row) static)
 
   same_source : (schema : Schema) (x : Source) (row : List ℕ) →
@@ -131,10 +128,10 @@ sieve_is task statics (sieve.NotEqual a b) are of = refl
 sieve_is task statics (sieve.Absent p slots) are of = ap not
     (table_is task statics p are (of.predicate p slots refl))
 
-all_as : {X : Type 0} (p q : X → Bool) (xs : List X) → ((x : X) → Contains xs x → p x ≡ q x) →
+pub all_agree : {X : Type 0} (p q : X → Bool) (xs : List X) → ((x : X) → Contains xs x → p x ≡ q x) →
     list_all p xs ≡ list_all q xs
-all_as p q [] same = refl
-all_as p q (x ∷ xs) same = (λ i. same x (Contains-cons_first x xs) i && all_as p q xs
+all_agree p q [] same = refl
+all_agree p q (x ∷ xs) same = (λ i. same x (Contains-cons_first x xs) i && all_agree p q xs
     (λ y c. same y (Contains-cons_rest x xs y c)) i)
 
 pub fixed_by_tables : (task : Task) (schema : Schema) (statics : List (Option Rows)) (edges : List Edge)
@@ -149,7 +146,7 @@ fixed_by_tables task schema statics edges local e are of same locals low =
     ∙ (ap (λ ls. is_fixed_source (has_no_table statics) (edge_at (edges_of schema) e).source && list_all
     (is_fixed_for (has_no_table statics) e) ls) locals
     ∙ (λ i. source_is task schema statics (edge_at (edges_of schema) e).source are edge_is.from i
-    && all_as (is_fixed_for (has_no_table statics) e) (is_fixed_for (is_fluent task.schemas) e)
+    && all_agree (is_fixed_for (has_no_table statics) e) (is_fixed_for (is_fluent task.schemas) e)
     (local_of schema)
     (λ placed c. ap (λ b. not (placed.edge == e) || b) (sieve_is task statics placed.sieve are
     (local_sieve_of task schema placed of c))) i))

@@ -32,7 +32,8 @@ pub fn filters(
     requires few { length edges.now < 2 ^ 32 }
     requires slots { All (IsSlotBelow 64) slots.now }
     requires literals { All (IsLiteralBelow (length slots.now)) condition.now }
-    ensures local { IfOk result (λ f. f.local.items ≡ local_among edges.now (sieves_of slots.now condition.now)) }
+    ensures local { IfOk result (λ f. f.local.items ≡ local_among edges.now
+        (sieves_of slots.now condition.now)) }
     ensures late { IfOk result
         (λ f. f.late.items ≡ late_among edges.now (sieves_of slots.now condition.now)) }
 {

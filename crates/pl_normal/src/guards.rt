@@ -32,7 +32,8 @@ pub fn guards(
     requires many { length slots.now ≡ length parameters.now }
     requires slots { All (IsSlotOf (length task.now.objects)) slots.now }
     requires types { All (λ (p : ParameterOf). All (λ t. t < length task.now.types) p.types) parameters.now }
-    requires literals { All (IsLiteralOf task.now.predicates (length task.now.objects) (length slots.now)) condition.now }
+    requires literals { All (IsLiteralOf task.now.predicates (length task.now.objects) (length slots.now))
+        condition.now }
     ensures { IfOk result (λ v. v.items
         ≡ type_guards task.now parameters.now slots.now ++ literal_guards task.now slots.now condition.now) }
 {

@@ -98,7 +98,7 @@ fn recipe_of<L: Ledger>(
     if form.edges.as_slice().is_empty() {
         return Ok(None);
     }
-    let fixed = node_relations(alloc, query, form, Share::Fixed, steps)?;
+    let fixed = node_relations(alloc, query, form, Share::Fixed, None, steps)?;
     Ok(Some(Recipe::of(alloc, &form.plan, fixed, steps)?))
 }
 
@@ -110,23 +110,24 @@ pub fn given_for<L: Ledger>(
     alloc: Global,
     query: &Query<'_>,
     form: &NormalSchema,
-    _recipe: &Recipe,
+    recipe: &Recipe,
     steps: &mut Steps<L>,
 ) -> Result<Vec<Option<Relation>>, AllocError>
     requires query { IsQuery query.now }
     requires form { IsNormalForm (task_in query.now) (schema_in query.now) form.now }
-    requires recipe { IsRecipeFor (task_in query.now) (schema_in query.now) _recipe.now }
+    requires recipe { IsRecipeFor (task_in query.now) (schema_in query.now) recipe.now }
     requires some { 0 < length (edges_of (schema_in query.now)) }
-    ensures given { IfOk result (λ v. AreGiven _recipe.now v.items) }
-    ensures nodes { IfOk result (λ v. AreNodesAt (task_in query.now) (schema_in query.now) (state_asked query.now)
-        (relations_with _recipe.now.fixed v.items)) }
+    ensures given { IfOk result (λ v. AreGiven recipe.now v.items) }
+    ensures nodes { IfOk result (λ v. AreNodesAt (task_in query.now)
+        (schema_in query.now) (state_asked query.now)
+        (relations_with recipe.now.fixed v.items)) }
     ensures few { IfOk result (λ v. IsAcyclic (sets_of (edges_of (schema_in query.now)))
-        → total_rows (relations_with _recipe.now.fixed v.items)
+        → total_rows (relations_with recipe.now.fixed v.items)
         ≤ relation_rows (task_in query.now) (state_asked query.now) (schema_in query.now)) }
     ensures cost { IfOk result (λ _. IsAcyclic (sets_of (edges_of (schema_in query.now)))
         → steps.new ≤ steps.old + (1 + 2 * length (local_of (schema_in query.now)))
         * relation_rows (task_in query.now) (state_asked query.now) (schema_in query.now)) }
     ensures rise { steps.old ≤ steps.new }
 {
-    Ok(node_relations(alloc, query, form, Share::Given, steps)?)
+    Ok(node_relations(alloc, query, form, Share::Given, Some(recipe), steps)?)
 }

@@ -2,7 +2,8 @@ use Rattle.std.proofs.Common.{ap, ◌∙◌, refl}
 use Rattle.pl_task.specs.declared.task.Task.{Task}
 use Rattle.pl_state.specs.StateOf.{state_in}
 use Rattle.pl_gen.specs.Measures.{close_entry_probes}
-use Rattle.pl_gen.proofs.Sizes.{rises, schemas_more}
+use Rattle.pl_normal.proofs.Relating.{rises}
+use Rattle.pl_gen.proofs.Sizes.{schemas_more}
 use Rattle.pl_gen.proofs.Stepping.{entry_more}
 use Rattle.pl_gen.proofs.prepared.entries_of.Goals as goal
 

@@ -1,11 +1,11 @@
-use Rattle.std.proofs.Common.{◌+◌, ◌≤◌, ◌∙◌, ap, length, refl, subst, sym}
+use Rattle.std.proofs.Common.{◌+◌, ◌≤◌, ◌∙◌, ap, arith, length, refl, subst, sym}
 use Rattle.pl_hyper.specs.Ears.{Removal}
 use Rattle.pl_hyper.specs.JoinTree.{IsAcyclic}
 use Rattle.pl_normal.specs.Asked.{source_rows, state_asked}
 use Rattle.pl_normal.proofs.Joins.{ear_numbers, edges_here, no_ear}
 use Rattle.pl_normal.proofs.Leaving.{ear_added, nodes_taken}
 use Rattle.pl_normal.proofs.Relating.{rises}
-use Rattle.pl_normal.proofs.Sharing.{ear_wanted_at, share_more}
+use Rattle.pl_normal.proofs.Sharing.{ear_edges, ear_wanted_at, share_more}
 use Rattle.pl_normal.proofs.nodes.node_relations.Goals as goal
 
 pub ear_relation-requires-clause-number : goal.ear_relation-requires-clause-number
@@ -13,6 +13,23 @@ ear_relation-requires-clause-number g c =
     ear_numbers c.args.query.now.schema.now c.args.form.now.edges c.args.form.now.plan
     c.removed-ears.result.now c.requires.form.edges c.requires.form.plan
     c.removed-ears.ensures.removed c.loop-ear.ear-index no_ear c.loop-ear-test.true
+
+pub ear_relation-requires-clause-node : goal.ear_relation-requires-clause-node
+ear_relation-requires-clause-node g c =
+    omega (
+      arith,
+      c.len-node.ensures,
+      c.loop-ear.invariant.0.many,
+      c.loop-ear-test.true,
+      ap length (c.removed-ears.ensures.removed ∙ ap (λ (p : Removal). p.removed) c.requires.form.plan),
+    )
+
+pub ear_relation-requires-clause-edges : goal.ear_relation-requires-clause-edges
+ear_relation-requires-clause-edges g c =
+    ear_edges c.args.query.now.task.now c.args.query.now.schema.now (state_asked c.args.query.now)
+    c.args.share c.loop-ear.ear-index c.len-node.result c.removed-ears.result.now no_ear
+    (c.removed-ears.ensures.removed ∙ ap (λ (p : Removal). p.removed) c.requires.form.plan)
+    c.loop-ear-test.true (omega (arith, c.len-node.ensures, c.loop-ear.invariant.0.many))
 
 pub loop-ear-preserved : goal.loop-ear-preserved
 loop-ear-preserved g c = (
