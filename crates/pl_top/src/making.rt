@@ -60,7 +60,8 @@ pub fn make<O: Sink, E: Sink, L: Ledger>(
 fn made_task(alloc: Global, kind: Kind, n: u32, start: u64) -> Result<Task, Refusal>
     requires { IsSize kind n }
     ensures task { IfOk result (AreStated (domain_text kind) (problem_text kind n start)) }
-    ensures refused { IfErr result (IsUnanswered (IsInputFault (domain_text kind) (problem_text kind n start))) }
+    ensures refused { IfErr result (IsUnanswered
+        (IsInputFault (domain_text kind) (problem_text kind n start))) }
 {
     match pl_make::make(alloc, kind, n, start) {
         Ok(made) => stated(alloc, made.domain.as_slice(), made.problem.as_slice()),

@@ -43,7 +43,8 @@ pub fn run<S: Shelf, O: Sink, E: Sink, L: Ledger>(
         (E.seen err.old) (E.seen err.new) result) }
     ensures no_file { IfSome (spec.request_of words.now) (λ request.
         spec.names_of request ≡ [] → shelf.new ≡ shelf.old) }
-    ensures no_read { IfSome (spec.request_of words.now) (λ request. spec.names_of request ≡ [] → result ≢ 4) }
+    ensures no_read { IfSome (spec.request_of words.now) (λ request. spec.names_of request ≡ [] →
+        result ≢ 4) }
     ensures probes { IfSome (spec.request_of words.now) (λ request.
         IfProbeless request (steps.new ≡ steps.old)) }
     ensures work { IfSome (spec.request_of words.now) (λ request.

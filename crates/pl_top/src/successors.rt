@@ -86,7 +86,8 @@ fn read_plan_file<S: Shelf>(
     shelf: &mut S,
     name: Option<&str>,
 ) -> Result<Option<Vec<u8>>, Refusal>
-    ensures whole { IfOk result (λ plan. IsPlanWhole (bytes_in name.entry) (S.seen shelf.old).files (items_in plan)) }
+    ensures whole { IfOk result (λ plan. IsPlanWhole (bytes_in name.entry)
+        (S.seen shelf.old).files (items_in plan)) }
     ensures unread { IfErr result (IsPlanUnread (bytes_in name.entry) (S.seen shelf.old) (S.seen shelf.new)) }
     ensures files { (S.seen shelf.new).files ≡ (S.seen shelf.old).files }
     ensures faults { (S.seen shelf.old).faults ≤ (S.seen shelf.new).faults }

@@ -84,7 +84,8 @@ fn judged(alloc: Global, domain: &[u8], problem: &[u8], plan: &[u8]) -> Result<V
     requires domain { length domain.now ≤ most_file_bytes }
     requires problem { length problem.now ≤ most_file_bytes }
     requires plan { length plan.now ≤ most_file_bytes }
-    ensures verdict { IfOk result (λ verdict. IsJudged domain.now problem.now plan.now (verdict_outcome verdict)) }
+    ensures verdict { IfOk result (λ verdict. IsJudged domain.now problem.now plan.now
+        (verdict_outcome verdict)) }
     ensures refused { IfErr result (IsUnjudged domain.now problem.now plan.now) }
 {
     let task = match check(alloc, domain, problem) {
