@@ -1,5 +1,5 @@
 -- How a table's rows lie in memory, and how a bisection narrows them.
-use Rattle.std.specs.Prelude.{◌≡◌, ◌*◌, ◌+◌, Option, Some, IfSome, nat_eq, ◌<◌, ◌≤◌, ◌^◌, ℕ, Bool, true}
+use Rattle.std.specs.Prelude.{◌≡◌, ◌*◌, ◌+◌, ◌-◌, Option, Some, IfSome, nat_eq, ◌<◌, ◌≤◌, ◌^◌, ℕ, Bool, true}
 use Rattle.std.specs.Prelude.{false, List, [], ◌∷◌, slice_index, length, take, All, if◌then◌else◌}
 use Rattle.std.specs.Prelude.{slice_index_or}
 use Rattle.std.specs.Ordering.{is_lt, is_le}
@@ -55,6 +55,19 @@ pub record IsFound (key : List ℕ) (rows : List (List ℕ)) (from to : ℕ) : T
 -- two values of a key as one number
 abbrev pub pair_number : ℕ → ℕ → ℕ
 pair_number first second = first * 2 ^ 32 + second
+
+-- the first value of the row at a place
+abbrev pub first_at : List (List ℕ) → ℕ → ℕ
+first_at rows place = slice_index (slice_index_or rows place []) 0
+
+-- the row at a place and the one 64 places before it have one first value, and so have the rows between them
+abbrev pub EndsLongRun : List (List ℕ) → ℕ → Type 0
+EndsLongRun rows place =
+    (64 ≤ place) × (place < length rows) × (first_at rows place ≡ first_at rows (place - 64))
+
+-- more than 64 rows have one first value
+abbrev pub HasLongRun : List (List ℕ) → Type 0
+HasLongRun rows = (place : ℕ) × EndsLongRun rows place
 
 -- each range of the map is that of just the rows that begin with its two values
 abbrev pub AreRangesOfPairs : {S : Type 0} → List (List ℕ) → IndexMap ℕ Range S → Type 0

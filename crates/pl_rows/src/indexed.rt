@@ -2,9 +2,9 @@
 
 ghost use Rattle.std.specs.Prelude.{◌≡◌, ◌↔◌, ◌+◌, ◌-◌, ◌<◌, ◌≤◌, ◌^◌, ◌++◌, ◌∷◌, [], List, ℕ};
 ghost use Rattle.std.specs.Prelude.{length, take, map, Contains, IsTrue, count_by, replicate};
-ghost use Rattle.std.specs.Prelude.{filter, slice_range, IfOk, IfSome, OnOk};
+ghost use Rattle.std.specs.Prelude.{filter, slice_range, IfOk, IfSome, IfNone, OnOk};
 ghost use Rattle.pl_rows.specs.Rows.{AreRowsOf, is_below, begins_with};
-ghost use Rattle.pl_rows.specs.Layout.{IsDirectory, IsBracket, IsFound, AreRangesOfPairs};
+ghost use Rattle.pl_rows.specs.Layout.{IsDirectory, IsBracket, IsFound, AreRangesOfPairs, HasLongRun};
 
 use crate::bisect::Bound;
 use crate::pairs::{has_long_run, pair_bracket, ranges_of_pairs};
@@ -148,7 +148,9 @@ fn long_runs(
     width: u32,
 ) -> Result<Option<IndexMap<u64, Range>>, AllocError>
     requires { width ≤ table.now.arity }
-    ensures { IfOk result (λ found. IfSome found (λ pairs. AreRangesOfPairs table.now.rows pairs)) }
+    ensures ranges { IfOk result (λ found. IfSome found (λ pairs. AreRangesOfPairs table.now.rows pairs)) }
+    ensures long { IfOk result (λ found. IfSome found (λ _. (2 ≤ width) × HasLongRun table.now.rows)) }
+    ensures none { IfOk result (λ found. IfNone found (2 ≤ width → HasLongRun table.now.rows → ⊥)) }
 {
     if width < 2 || !has_long_run(table) {
         return Ok(None);

@@ -1,8 +1,8 @@
 //! The ranges of rows that begin with the same two values, by hash.
 
 ghost use Rattle.std.specs.Prelude.{◌≡◌, ◌+◌, ◌*◌, ◌<◌, ◌≤◌, ◌^◌, ◌∷◌, [], length, slice_index};
-ghost use Rattle.std.specs.Prelude.{IfOk, IfSome, OnOk};
-ghost use Rattle.pl_rows.specs.Layout.{pair_number, AreRangesOfPairs, IsFound, IsBracket};
+ghost use Rattle.std.specs.Prelude.{IfOk, IfSome, OnOk, IsTrue, ◌↔◌};
+ghost use Rattle.pl_rows.specs.Layout.{pair_number, AreRangesOfPairs, IsFound, IsBracket, HasLongRun};
 
 use crate::bisect::Bound;
 use crate::range::Range;
@@ -19,6 +19,7 @@ const LONGEST_RUN: usize = 64;
 /// Whether more than `LONGEST_RUN` rows have one first value. A table of no more rows is not read.
 pub fn has_long_run(table: &Table) -> bool
     requires { 0 < table.now.arity }
+    ensures { IsTrue result ↔ HasLongRun table.now.rows }
 {
     for i in LONGEST_RUN..table.len() {
         if table.row_unprobed(i)[0] == table.row_unprobed(i - LONGEST_RUN)[0] {
