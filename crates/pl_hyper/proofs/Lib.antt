@@ -11,6 +11,8 @@ pub mod Bits
 mod Trees
 mod Acyclic
 -- the search for the next ear, and the loop round it
+mod Holding
+mod Finding
 mod Searches
 mod UnderWay
 -- for the crates above: what the order of the classes holds

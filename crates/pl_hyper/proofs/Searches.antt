@@ -1,16 +1,16 @@
 -- The search for the next ear: the classes that are shared, the parents of an edge, and where no ear stands.
 use Rattle.std.proofs.Common.{◌≡◌, ◌≢◌, ℕ, ◌+◌, ◌<◌, ◌≤◌, ◌⊎◌, ◌↔◌, List, length, get_or, sym, ap, ◌∙◌, subst}
-use Rattle.std.proofs.Common.{inl, inr, arith}
+use Rattle.std.proofs.Common.{inl, inr, arith, refl}
 use Rattle.std.specs.Prelude.{bit_and, bit_or, slice_index}
 use Rattle.std.specs.Int.{bit_at}
 use Rattle.std.specs.List.{Contains, AllPairs}
 use Rattle.std.proofs.lemmas.List.{get_or_default}
 use Rattle.std.proofs.lemmas.List.Elements.{Contains-get_or}
-use Rattle.std.proofs.lemmas.Nat.Bits.{bit_at-zero}
 use Rattle.pl_hyper.specs.Edges.{Holds}
 use Rattle.pl_hyper.specs.Ears.{IsEar, without}
 use Rattle.pl_hyper.specs.Search.{IsShared, AreShared, IsParent, IsFirstParent, IsEarAt}
-use Rattle.pl_hyper.proofs.Members.{same_or_not, within_without}
+use Rattle.pl_hyper.specs.Holders.{AreSharedBut}
+use Rattle.pl_hyper.proofs.Members.{same_or_not, within_without, without_contains}
 use Rattle.pl_hyper.proofs.Bits.{and_bit, or_bit, no_bit}
 
 either : {A B C D : Type 0} → (A → C) → (B → D) → A ⊎ B → C ⊎ D
@@ -263,3 +263,109 @@ none_more edges remaining from place shared a none before k g low h ear =
           (subst (λ j. IsEar edges remaining (get_or remaining j 0) g) e ear))
       | inr d ↦ before k g low (omega arith) ear
     ]
+
+-- ---- the shared classes after an edge has left
+
+-- what a look at one class of the holder's decides
+pub still_shared_one : (edges remaining : List ℕ) (holder class classes f shared : ℕ) →
+    ((k : ℕ) → (bit_at classes k ≡ 1) ↔ ((bit_at 0 k ≡ 1) ⊎ (k ≡ class))) →
+    IsFirstParent edges remaining holder classes f → Contains remaining holder → Holds edges holder class →
+    bit_at shared class ≡ 1 → (bit_at shared class ≡ 1) ↔ IsShared edges remaining class
+still_shared_one edges remaining holder class classes f shared one first has holds held = (
+  λ b. record {
+    one = holder;
+    other = f;
+    apart = first.is_parent.apart;
+    one_remains = has;
+    other_remains = first.is_parent.remains;
+    one_holds = holds;
+    other_holds = first.is_parent.serves class ((one class).1 (inr refl));
+  },
+  λ s. held,
+)
+
+other_serves : (edges : List ℕ) (class classes f c : ℕ) →
+    ((k : ℕ) → (bit_at classes k ≡ 1) ↔ ((bit_at 0 k ≡ 1) ⊎ (k ≡ class))) → Holds edges f class →
+    bit_at classes c ≡ 1 → Holds edges f c
+other_serves edges class classes f c one holds b = elim ((one c).0 b) [
+  | inl z ↦ absurd (no_bit c z)
+  | inr e ↦ subst (Holds edges f) (sym e) holds
+]
+
+pub not_shared_more : (edges remaining : List ℕ) (holder class classes : ℕ) →
+    ((k : ℕ) → (bit_at classes k ≡ 1) ↔ ((bit_at 0 k ≡ 1) ⊎ (k ≡ class))) →
+    ((f : ℕ) → IsParent edges remaining holder classes f → ⊥) → IsShared edges remaining class → ⊥
+not_shared_more edges remaining holder class classes one none s =
+    elim (same_or_not s.one holder) [
+      | inl e ↦ none s.other (record {
+        remains = s.other_remains;
+        apart = λ q. s.apart (e ∙ q);
+        serves = λ c b. other_serves edges class classes s.other c one s.other_holds b;
+      })
+      | inr d ↦ none s.one (record {
+        remains = s.one_remains;
+        apart = λ q. d (sym q);
+        serves = λ c b. other_serves edges class classes s.one c one s.one_holds b;
+      })
+    ]
+
+-- one class less is asked about
+pub shared_but_less : (edges remaining : List ℕ) (holder asked shared class asked' shared' : ℕ) →
+    AreSharedBut edges remaining holder asked shared → bit_at asked class ≡ 1 →
+    ((k : ℕ) → (bit_at asked' k ≡ 1) ↔ ((bit_at asked k ≡ 1) × (k ≢ class))) →
+    ((k : ℕ) → k ≢ class → (bit_at shared' k ≡ 1) ↔ (bit_at shared k ≡ 1)) →
+    (Contains remaining holder → Holds edges holder class → bit_at shared class ≡ 1 →
+    (bit_at shared' class ≡ 1) ↔ IsShared edges remaining class) →
+    AreSharedBut edges remaining holder asked' shared'
+shared_but_less edges remaining holder asked shared class asked' shared' a held rest others decided = record {
+  holder_remains = a.holder_remains;
+  holder_holds = λ c b. a.holder_holds c ((rest c).0 b).0;
+  still_in = λ c b. (let both = (rest c).0 b in (others c both.1).1 (a.still_in c both.0));
+  others = λ c n. elim (same_or_not c class) [
+    | inl e ↦ subst (λ x. (bit_at shared' x ≡ 1) ↔ IsShared edges remaining x) (sym e)
+        (decided a.holder_remains (a.holder_holds class held) (a.still_in class held))
+    | inr d ↦ (let same = a.others c (λ b. n ((rest c).1 (b, d))) in
+        (λ b. same.0 ((others c d).0 b), λ s. (others c d).1 (same.1 s)))
+  ];
+}
+
+pub shared_from_but : (edges remaining : List ℕ) (holder asked shared : ℕ) → asked ≡ 0 →
+    AreSharedBut edges remaining holder asked shared → AreShared edges remaining shared
+shared_from_but edges remaining holder asked shared none a = λ c.
+    a.others c (λ b. no_bit c (subst (λ x. bit_at x c ≡ 1) none b))
+
+lost_not : (edges : List ℕ) (shared e c : ℕ) → bit_at shared c ≡ 1 →
+    (bit_at (bit_and (slice_index edges e) shared) c ≡ 1 → ⊥) → Holds edges e c → ⊥
+lost_not edges shared e c b n h = n ((and_bit (slice_index edges e) shared c).1 (h, b))
+
+-- after an ear has left, its shared classes are those to ask about, and its parent holds them
+pub shared_but_ear : (edges remaining : List ℕ) (shared e f : ℕ) → AreShared edges remaining shared →
+    IsEar edges remaining e f →
+    AreSharedBut edges (without e remaining) f (bit_and (slice_index edges e) shared) shared
+shared_but_ear edges remaining shared e f a ear = record {
+  holder_remains = without_contains e remaining f ear.parent_remains (λ q. ear.apart (sym q));
+  holder_holds = (parent_from_ear edges remaining shared e f a ear).serves;
+  still_in = λ c b. ((and_bit (slice_index edges e) shared c).0 b).1;
+  others = λ c n. (
+    λ b. (let s = (a c).0 b in let lacks = lost_not edges shared e c b n in record {
+      one = s.one;
+      other = s.other;
+      apart = s.apart;
+      one_remains = without_contains e remaining s.one s.one_remains
+          (λ q. lacks (subst (λ x. Holds edges x c) q s.one_holds));
+      other_remains = without_contains e remaining s.other s.other_remains
+          (λ q. lacks (subst (λ x. Holds edges x c) q s.other_holds));
+      one_holds = s.one_holds;
+      other_holds = s.other_holds;
+    }),
+    λ s. (a c).1 (record {
+      one = s.one;
+      other = s.other;
+      apart = s.apart;
+      one_remains = (within_without e remaining s.one s.one_remains).0;
+      other_remains = (within_without e remaining s.other s.other_remains).0;
+      one_holds = s.one_holds;
+      other_holds = s.other_holds;
+    }),
+  );
+}

@@ -1,6 +1,7 @@
 -- The removal of ears under way: what stands when the search for the next ear begins.
 use Rattle.std.proofs.Common.{◌≡◌, ℕ, ◌<◌, ◌≤◌, ◌⊎◌, List, [], ◌∷◌, ◌++◌, length, get_or, sym, ap, ◌∙◌, subst}
 use Rattle.std.proofs.Common.{inl, inr, arith}
+use Rattle.std.specs.Prelude.{bit_and, slice_index}
 use Rattle.std.specs.List.{All, AllPairs, remove}
 use Rattle.std.proofs.lemmas.List.{get_or_default}
 use Rattle.std.proofs.lemmas.List.Elements.{Contains-get_or}
@@ -10,9 +11,10 @@ use Rattle.pl_hyper.specs.declared.ear.Ear.{Ear}
 use Rattle.pl_hyper.specs.Edges.{edge_numbers}
 use Rattle.pl_hyper.specs.Ears.{IsEar, IsFirstEar, Removes, IsRemoval, without}
 use Rattle.pl_hyper.specs.Search.{AreShared, IsEarAt}
+use Rattle.pl_hyper.specs.Holders.{AreHolders, AreSharedBut}
 use Rattle.pl_hyper.proofs.Members.{same_or_not, range_rises, within_range, remove_is_without}
 use Rattle.pl_hyper.proofs.Removals.{Removes-push, left_rises, still_edges}
-use Rattle.pl_hyper.proofs.Searches.{ear_before}
+use Rattle.pl_hyper.proofs.Searches.{ear_before, shared_but_ear}
 
 pub record IsUnderWay (edges core : List ℕ) (removed : List Ear) (shared from : ℕ) : Type 0 where
   pub removes : Removes edges (edge_numbers edges) removed core
@@ -197,33 +199,60 @@ IsUnderWay-on edges core removed shared from place parent core' removed' given l
     rw (t.core_is, t.removed_is) (onward edges core removed shared from place parent left t.before t.found
     (subst (λ xs. AreShared edges xs left) (g ∙ t.core_is) a) e)
 
-pub next_rises : (edges core : List ℕ) (removed : List Ear) (shared from place parent : ℕ) (core' : List ℕ)
-    (removed' : List Ear) (given : List ℕ) →
-    IsTurn edges core removed shared from place parent core' removed' → given ≡ core' →
-    AllPairs (λ e f. e < f) given
-next_rises edges core removed shared from place parent core' removed' given t g =
-    subst (AllPairs (λ e f. e < f)) (sym (g ∙ t.core_is))
-    (left_rises edges (edge_numbers edges) (taken core removed place parent) (remove core place)
-    (removes_more edges core removed shared from place parent t.before t.found)
-    (range_rises (length edges)))
+-- ---- the holders and the shared classes of a turn
 
-pub next_within : (edges core : List ℕ) (removed : List Ear) (shared from place parent : ℕ) (core' : List ℕ)
-    (removed' : List Ear) (given : List ℕ) →
-    IsTurn edges core removed shared from place parent core' removed' → given ≡ core' →
-    All (λ e. e < length edges) given
-next_within edges core removed shared from place parent core' removed' given t g =
-    subst (All (λ e. e < length edges)) (sym (g ∙ t.core_is))
-    (λ k d h. within_range (length edges) (get_or (remove core place) k d)
-    (still_edges edges (edge_numbers edges) (taken core removed place parent) (remove core place)
-    (removes_more edges core removed shared from place parent t.before t.found)
-    (get_or (remove core place) k d) (Contains-get_or (remove core place) k d h)))
+-- the ear that was found is an edge, read at its place
+pub ear_is_edge : (edges core : List ℕ) (removed : List Ear) (shared from place parent e : ℕ)
+    (given : List ℕ) → IsUnderWay edges core removed shared from → given ≡ core →
+    IsEarAt edges given from place parent → e ≡ get_or core place e → e < length edges
+ear_is_edge edges core removed shared from place parent e given u g found is =
+    let within : place < length core = subst (λ xs. place < length xs) g found.within in
+    subst (λ x. x < length edges) (sym is) (core_within edges core removed shared from u place e within)
+
+pub core_shrinks : (edges core core' given : List ℕ) (from place parent : ℕ) → given ≡ core →
+    IsEarAt edges given from place parent → core' ≡ remove core place → length core' < length core
+core_shrinks edges core core' given from place parent g found is =
+    let within : place < length core = subst (λ xs. place < length xs) g found.within in
+    let long = length-remove core place within in
+    subst (λ xs. length xs < length core) (sym is) (omega (arith, long, within))
+
+taken_edge : (edges core : List ℕ) (removed : List Ear) (shared from place parent : ℕ) (core' : List ℕ)
+    (removed' : List Ear) (e : ℕ) → IsTurn edges core removed shared from place parent core' removed' →
+    e ≡ get_or core place e → e ≡ get_or core place 0
+taken_edge edges core removed shared from place parent core' removed' e t is =
+    is ∙ get_or_default core place e 0 t.found.within
+
+core_without : (edges core : List ℕ) (removed : List Ear) (shared from place parent : ℕ) (core' : List ℕ)
+    (removed' : List Ear) (e : ℕ) → IsTurn edges core removed shared from place parent core' removed' →
+    e ≡ get_or core place e → core' ≡ without e core
+core_without edges core removed shared from place parent core' removed' e t is =
+    t.core_is
+    ∙ (remove_is_without core place 0 (core_rises edges core removed shared from t.before) t.found.within
+    ∙ ap (λ x. without x core)
+    (sym (taken_edge edges core removed shared from place parent core' removed' e t is)))
+
+pub holders_on : (edges core : List ℕ) (removed : List Ear) (shared from place parent : ℕ) (core' : List ℕ)
+    (removed' : List Ear) (e : ℕ) (words' present' : List ℕ) →
+    IsTurn edges core removed shared from place parent core' removed' → e ≡ get_or core place e →
+    AreHolders edges (without e core) words' present' → AreHolders edges core' words' present'
+holders_on edges core removed shared from place parent core' removed' e words' present' t is a =
+    subst (λ xs. AreHolders edges xs words' present')
+    (sym (core_without edges core removed shared from place parent core' removed' e t is)) a
+
+pub shared_on : (edges core : List ℕ) (removed : List Ear) (shared from place parent : ℕ) (core' : List ℕ)
+    (removed' : List Ear) (e left : ℕ) → IsTurn edges core removed shared from place parent core' removed' →
+    e ≡ get_or core place e →
+    (AreSharedBut edges core' parent (bit_and (slice_index edges e) shared) shared
+    → AreShared edges core' left) → AreShared edges core' left
+shared_on edges core removed shared from place parent core' removed' e left t is next =
+    let at = taken_edge edges core removed shared from place parent core' removed' e t is in
+    next (subst (λ xs. AreSharedBut edges xs parent (bit_and (slice_index edges e) shared) shared)
+    (sym (core_without edges core removed shared from place parent core' removed' e t is))
+    (subst (λ x. AreSharedBut edges (without x core) parent (bit_and (slice_index edges x) shared) shared)
+    (sym at)
+    (shared_but_ear edges core shared (get_or core place 0) parent t.before.shared_are t.found.is_ear)))
 
 -- what the search requires, of the slice that it is given
-pub given_rises : (edges core : List ℕ) (removed : List Ear) (shared from : ℕ) (given : List ℕ) →
-    given ≡ core → IsUnderWay edges core removed shared from → AllPairs (λ e f. e < f) given
-given_rises edges core removed shared from given g u = subst (AllPairs (λ e f. e < f)) (sym g)
-    (core_rises edges core removed shared from u)
-
 pub given_within : (edges core : List ℕ) (removed : List Ear) (shared from : ℕ) (given : List ℕ) →
     given ≡ core → IsUnderWay edges core removed shared from → All (λ e. e < length edges) given
 given_within edges core removed shared from given g u = subst (All (λ e. e < length edges)) (sym g)

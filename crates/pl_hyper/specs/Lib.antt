@@ -5,3 +5,4 @@ pub mod JoinTree
 pub mod ClassOrder
 -- what the functions inside the crate promise each other
 pub mod Search
+pub mod Holders

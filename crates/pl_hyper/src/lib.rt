@@ -7,14 +7,19 @@
 #![tactic(auto)]
 
 mod ear;
+mod finder;
+mod holders;
 pub mod laws;
 mod order;
 mod plan;
 mod removal;
 mod search;
+mod sets;
+mod sharing;
 #[cfg(test)]
 mod tests;
 
 pub use ear::Ear;
+pub use finder::EdgeFinder;
 pub use plan::EarPlan;
 pub use removal::ears;

@@ -6,8 +6,10 @@ ghost use Rattle.pl_hyper.specs.Edges.{edge_numbers};
 ghost use Rattle.pl_hyper.specs.Ears.{IsRemoval, IsWalkable, Removal};
 
 use crate::ear::Ear;
+use crate::holders::{all_holders, take_out};
 use crate::plan::EarPlan;
-use crate::search::{first_ear, shared_classes};
+use crate::search::first_ear;
+use crate::sharing::{shared_classes, still_shared};
 use std::alloc::{AllocError, Global};
 
 /// Removes the ears of a hypergraph, always the least-numbered one with its least-numbered parent, until none
@@ -18,8 +20,9 @@ use std::alloc::{AllocError, Global};
 /// ear of any other. This is the reduction of Graham (1979) and of Yu and Ozsoyoglu (1979), with each choice
 /// fixed.
 ///
-/// The time is quadratic in the number of edges: the edges before an ear are looked at again only where a
-/// class is no longer shared, and that comes once a class.
+/// A parent is sought among 64 edges at a time, and where an ear leaves only its own classes are looked at
+/// again. So with a few thousand edges the time is about that of going over their classes. The edges before
+/// an ear are looked at again only where a class is no longer shared, and that comes once a class.
 pub fn ears(alloc: Global, edges: &[u64]) -> Result<EarPlan, AllocError>
     requires { length edges.now < 2 ^ 32 }
     ensures edges { IfOk result (λ plan. plan.edges ≡ edges.now) }
@@ -32,12 +35,15 @@ pub fn ears(alloc: Global, edges: &[u64]) -> Result<EarPlan, AllocError>
 {
     let mut core = all_numbers(alloc, edges)?;
     let mut removed = Vec::with_capacity(alloc, edges.len())?;
+    let mut holders = all_holders(alloc, edges)?;
     let mut shared = shared_classes(edges, &core);
     // No edge that stands before this place in the core is an ear.
     let mut from = 0;
-    while let Some((place, parent)) = first_ear(edges, &core, from, shared) {
+    while let Some((place, parent)) = first_ear(edges, &core, &holders, from, shared) {
+        let edge = core[place];
         remove_ear(&mut core, &mut removed, place, parent)?;
-        let left = shared_classes(edges, &core);
+        take_out(&mut holders, edge);
+        let left = still_shared(&holders, parent, edges[edge as usize] & shared, shared);
         from = if left == shared { place } else { 0 };
         shared = left;
     }

@@ -1,58 +1,60 @@
 //! The search for the next ear among the edges that remain.
 
-ghost use Rattle.std.specs.Prelude.{◌≡◌, ◌≢◌, ◌≤◌, ◌<◌, ℕ, length, All, AllPairs, IfSome, IfNone};
-ghost use Rattle.std.specs.Prelude.{slice_index, ◌↔◌, IsTrue};
+ghost use Rattle.std.specs.Prelude.{◌≡◌, ◌≢◌, ◌≤◌, ◌<◌, ◌+◌, ◌*◌, ◌^◌, ◌↔◌, ℕ, List, length, All};
+ghost use Rattle.std.specs.Prelude.{slice_index, IfSome, IfNone};
 ghost use Rattle.std.specs.Int.{bit_at};
 ghost use Rattle.pl_hyper.specs.Ears.{IsEar};
 ghost use Rattle.pl_hyper.specs.Search.{AreShared, IsParent, IsFirstParent, IsEarAt};
+ghost use Rattle.pl_hyper.specs.Holders.{AreHolders};
 
-/// The classes that at least two of the remaining edges hold.
-pub fn shared_classes(edges: &[u64], remaining: &[u32]) -> u64
-    requires within { All (λ e. e < length edges.now) remaining.now }
-    requires rising { AllPairs (λ e f. e < f) remaining.now }
-    ensures { AreShared edges.now remaining.now result }
-{
-    let mut once = 0;
-    let mut twice = 0;
-    for e in remaining {
-        let classes = edges[*e as usize];
-        twice |= once & classes;
-        once |= classes;
-    }
-    twice
-}
+use crate::holders::{Holders, common_holders};
+use crate::sets::{least_member, without_member};
 
 /// The first remaining edge other than `edge` that holds all of the classes.
-fn first_parent(edges: &[u64], remaining: &[u32], edge: u32, classes: u64) -> Option<u32>
-    requires within { All (λ e. e < length edges.now) remaining.now }
-    requires rising { AllPairs (λ e f. e < f) remaining.now }
-    ensures first { IfSome result (IsFirstParent edges.now remaining.now edge classes) }
-    ensures none { IfNone result ((f : ℕ) → IsParent edges.now remaining.now edge classes f → ⊥) }
+pub fn first_parent(holders: &Holders, edge: u32, classes: u64) -> Option<u32>
+    requires many { length holders.now.words.items ≡ 64 * length holders.now.present.items }
+    requires few { 64 * length holders.now.present.items ≤ 2 ^ 32 }
+    ensures first { (edges remaining : List ℕ)
+        → AreHolders edges remaining holders.now.words.items holders.now.present.items
+        → IfSome result (IsFirstParent edges remaining edge classes) }
+    ensures none { (edges remaining : List ℕ)
+        → AreHolders edges remaining holders.now.words.items holders.now.present.items
+        → IfNone result ((f : ℕ) → IsParent edges remaining edge classes f → ⊥) }
 {
-    for f in remaining {
-        if *f != edge && is_within(classes, edges[*f as usize]) {
-            return Some(*f);
+    for block in 0..holders.present.len() {
+        let others = without_edge(common_holders(holders, block, classes), block, edge);
+        if others != 0 {
+            return Some(block as u32 * 64 + least_member(others));
         }
     }
     None
 }
 
-/// Whether each of the classes is one of the edge's.
-fn is_within(classes: u64, edge: u64) -> bool
-    ensures { IsTrue result
-        ↔ ((class : ℕ) → bit_at classes class ≡ 1 → bit_at edge class ≡ 1) }
+/// The edges of a block but this one.
+fn without_edge(found: u64, block: usize, edge: u32) -> u64
+    ensures { (place : ℕ) → place < 64 → (bit_at result place ≡ 1)
+        ↔ ((bit_at found place ≡ 1) × (edge ≢ block * 64 + place)) }
 {
-    classes & edge == classes
+    if edge as usize / 64 != block {
+        return found;
+    }
+    without_member(found, edge % 64)
 }
 
 /// The place among the remaining edges, from `from` on, of the first one that is an ear, and its first
 /// parent.
 ///
 /// `shared` are the classes that at least two remaining edges hold.
-pub fn first_ear(edges: &[u64], remaining: &[u32], from: usize, shared: u64) -> Option<(usize, u32)>
+pub fn first_ear(
+    edges: &[u64],
+    remaining: &[u32],
+    holders: &Holders,
+    from: usize,
+    shared: u64,
+) -> Option<(usize, u32)>
     requires within { All (λ e. e < length edges.now) remaining.now }
-    requires rising { AllPairs (λ e f. e < f) remaining.now }
     requires start { from ≤ length remaining.now }
+    requires holders { AreHolders edges.now remaining.now holders.now.words.items holders.now.present.items }
     requires shared { AreShared edges.now remaining.now shared }
     ensures first { IfSome result (λ found. IsEarAt edges.now remaining.now from found.0 found.1) }
     ensures none { IfNone result ((k f : ℕ) → from ≤ k → k < length remaining.now
@@ -60,7 +62,7 @@ pub fn first_ear(edges: &[u64], remaining: &[u32], from: usize, shared: u64) -> 
 {
     for place in from..remaining.len() {
         let edge = remaining[place];
-        if let Some(parent) = first_parent(edges, remaining, edge, edges[edge as usize] & shared) {
+        if let Some(parent) = first_parent(holders, edge, edges[edge as usize] & shared) {
             return Some((place, parent));
         }
     }

@@ -1,6 +1,6 @@
 use Rattle.std.proofs.Common.{arith, refl, subst, ◌≡◌, length}
 use Rattle.pl_hyper.proofs.Searches.{AreSeen, seen_more, seen_all}
-use Rattle.pl_hyper.proofs.search.shared_classes.Goals as goal
+use Rattle.pl_hyper.proofs.sharing.shared_classes.Goals as goal
 
 pub loop-e-preserved : goal.loop-e-preserved
 loop-e-preserved c = seen_more c.args.edges.now c.args.remaining.now c.loop-e.e-index c.loop-e.once
