@@ -1,5 +1,5 @@
 -- The stages of a reduced join are those at the stops of its walk.
-use Rattle.std.proofs.Common.{◌≡◌, ◌+◌, ◌<◌, ◌≤◌, ℕ, zero, suc, true, false, cond, List, [], ◌∷◌, length, map}
+use Rattle.std.proofs.Common.{◌≡◌, ◌+◌, ◌<◌, ◌≤◌, ℕ, zero, suc, cond, List, [], ◌∷◌, length, map}
 use Rattle.std.proofs.Common.{drop, slice_index, All, refl, sym, ap, ◌∙◌, subst, inl, inr, arith}
 use Rattle.std.proofs.lemmas.Bool.{cases_lt}
 use Rattle.std.proofs.lemmas.List.{drop_all, length-drop, length-map, get_or-map}
@@ -8,7 +8,7 @@ use Rattle.pl_reduce.specs.declared.layout.Stop.{Stop}
 use Rattle.pl_reduce.specs.Nodes.{Node, ReducedJoin, node_at, new_classes}
 use Rattle.pl_reduce.specs.Walk.{walk_of, classes_along}
 use Rattle.pl_reduce.specs.Reduced.{IsReduced}
-use Rattle.pl_reduce.specs.Layout.{LayoutView, IsLayoutOf, brings, node_walked, number_walked, met_before}
+use Rattle.pl_reduce.specs.Layout.{LayoutView, IsLayoutOf, node_walked, number_walked, met_before}
 use Rattle.pl_reduce.specs.Layout.{stops_from, stops_of, stop_of, stop_at}
 use Rattle.pl_reduce.proofs.Stopping.{length-walk_of, walked, met_more, met_within, is_bringing, not_bringing}
 use Rattle.pl_reduce.proofs.Stopping.{stop_next, stop_none, all_stops}

@@ -1,14 +1,14 @@
 -- The stages of a reduced join: how they follow one another, that no choice of rows ends before an answer,
 -- and that their answers are those of the join.
-use Rattle.std.proofs.Common.{◌≡◌, ◌↔◌, ◌+◌, ◌-◌, ◌<◌, ◌≤◌, ℕ, zero, suc, Bool, true, false, IsTrue, List, []}
-use Rattle.std.proofs.Common.{◌∷◌, ◌++◌, length, map, take, drop, get_or, filter, reverse, slice_index, All}
+use Rattle.std.proofs.Common.{◌≡◌, ◌↔◌, ◌+◌, ◌-◌, ◌<◌, ◌≤◌, ℕ, Bool, true, false, IsTrue, List, []}
+use Rattle.std.proofs.Common.{◌∷◌, ◌++◌, length, map, take, drop, filter, slice_index, All}
 use Rattle.std.proofs.Common.{Contains, refl, sym, ap, ◌∙◌, subst, inl, inr, arith}
 use Rattle.std.specs.List.{list_any}
 use Rattle.std.proofs.lemmas.Bool.{cases_Bool, cases_lt, false≢true}
 use Rattle.std.proofs.lemmas.Bool.Decides.{nat_tests}
 use Rattle.std.proofs.lemmas.List.{append_assoc, append-nil, take-append-drop, length-append, length-map}
 use Rattle.std.proofs.lemmas.List.{length-drop, length-take-le, map-append, take_at, drop_at, drop_all}
-use Rattle.std.proofs.lemmas.List.{drop_more, nil_from_length}
+use Rattle.std.proofs.lemmas.List.{nil_from_length}
 use Rattle.std.proofs.lemmas.List.{get_or_append_left}
 use Rattle.std.proofs.lemmas.List.Concat.{flat_map-append}
 use Rattle.std.proofs.lemmas.List.Elements.{All-contains, All-append, All-head, All-tail, All-cons, All-nil}
@@ -19,7 +19,7 @@ use Rattle.pl_rows.proofs.Canonical.{Contains-nil, Contains-cons_first, Contains
 use Rattle.pl_join.specs.Relation.{Assignment, AreDistinct, IsRelation, Holds, HoldsAll}
 use Rattle.pl_join.proofs.Assignments.{value_of, restored}
 use Rattle.pl_join.proofs.Members.{Contains-filter, Contains-from_filter}
-use Rattle.pl_reduce.specs.Nodes.{Node, ReducedJoin, relations_of, node_at, key_classes, new_classes}
+use Rattle.pl_reduce.specs.Nodes.{Node, ReducedJoin, relations_of, key_classes, new_classes}
 use Rattle.pl_reduce.specs.Layout.{place_in, brings}
 use Rattle.pl_reduce.specs.Walk.{walk_of, classes_along, GoesOn}
 use Rattle.pl_reduce.specs.Reduced.{IsReduced, JoinHolds}
@@ -36,12 +36,12 @@ use Rattle.pl_cursor.proofs.Fronts.{chain-length, length-grown_matching}
 -- ---- lists
 
 -- one that passes
-pub passing : {X : Type 0} (p : X → Bool) (xs : List X) → list_any p xs ≡ true → (x : X) × Contains xs x
+pub some_passes : {X : Type 0} (p : X → Bool) (xs : List X) → list_any p xs ≡ true → (x : X) × Contains xs x
     × (p x ≡ true)
-passing p [] h = absurd (false≢true h)
-passing p (a ∷ xs) h = elim (cases_Bool (p a)) [
+some_passes p [] h = absurd (false≢true h)
+some_passes p (a ∷ xs) h = elim (cases_Bool (p a)) [
   | inl y ↦ (a, Contains-cons_first a xs, y)
-  | inr n ↦ (let (x, m, y) = passing p xs (rw n at h) in (x, Contains-cons_rest a xs x m, y))
+  | inr n ↦ (let (x, m, y) = some_passes p xs (rw n at h) in (x, Contains-cons_rest a xs x m, y))
 ]
 
 -- two fronts of one length
@@ -50,9 +50,6 @@ split_same xs ys us vs l e = (
   sym (take_at xs ys (length xs) refl) ∙ ap (take (length xs)) e ∙ take_at us vs (length xs) (sym l),
   sym (drop_at xs ys (length xs) refl) ∙ ap (drop (length xs)) e ∙ drop_at us vs (length xs) (sym l),
 )
-
-shows : (b : Bool) → IsTrue b → b ≡ true
-shows b t = grind arith
 
 -- ---- a node of the walk
 
@@ -284,7 +281,7 @@ held_same join is filled before after node values e none held f same =
     (sym (classes_more before node ∙ ap (λ cs. classes_along before ++ cs) nothing
     ∙ append-nil (classes_along before))) ∙ same in
     let there : HoldsAll (relations_of before) f = held f front in
-    let (row, among, begins) = passing (begins_with (map f (key_classes node))) node.relation.rows
+    let (row, among, begins) = some_passes (begins_with (map f (key_classes node))) node.relation.rows
     (goes_on_walk join is filled before after node f e there) in
     let key : take (length (map f (key_classes node))) row ≡ map f (key_classes node) =
     (bytes_eq-Decides (take (length (map f (key_classes node))) row) (map f (key_classes node))).0
@@ -498,6 +495,6 @@ filled_join join empty is tells fails root others e = elim (cases_lt 0 (length r
   | inl l ↦ l
   | inr ge ↦ (
       let none : root.relation.rows ≡ [] = nil_from_length root.relation.rows (omega arith) in
-      let yes : empty ≡ true = shows empty (tells.1 (λ f h. none_held join root others f e none h)) in
+      let yes : empty ≡ true = tells.1 (λ f h. none_held join root others f e none h) in
       absurd (false≢true (sym fails ∙ yes)))
 ]

@@ -15,6 +15,7 @@ use Rattle.std.proofs.lemmas.List.Elements.{filter-append}
 use Rattle.std.proofs.lemmas.Map.Keys.{Less-from_sorted}
 use Rattle.std.proofs.lemmas.Map.Lookups.{exact_bytes}
 use Rattle.std.proofs.lemmas.Option.{slice_get_within, get_or_from_slice_get, slice_get-get_or}
+use Rattle.pl_cursor.proofs.Filters.{filter_none, filter_whole}
 use Rattle.pl_cursor.proofs.Ranges.{range_holds, range_place, range_split}
 use Rattle.pl_rows.specs.Rows.{row_cmp, is_below}
 use Rattle.pl_rows.proofs.Canonical.{Contains-cons_first, Contains-cons_rest}
@@ -53,20 +54,6 @@ is_past-above true past row h = ap is_le h
 is_past-above false past row h = ap is_lt h
 
 -- ---- a test on what a list of lists joins
-
-pub filter-none : {X : Type 0} (p : X → Bool) (xs : List X) → ((x : X) → Contains xs x → p x ≡ false)
-    → filter p xs ≡ []
-filter-none p [] h = refl
-filter-none p (x ∷ xs) h =
-    let here : p x ≡ false = h x (Contains-cons_first x xs) in
-    rw here (filter-none p xs (λ y m. h y (Contains-cons_rest x xs y m)))
-
-pub filter-all : {X : Type 0} (p : X → Bool) (xs : List X) → ((x : X) → Contains xs x → p x ≡ true)
-    → filter p xs ≡ xs
-filter-all p [] h = refl
-filter-all p (x ∷ xs) h =
-    let here : p x ≡ true = h x (Contains-cons_first x xs) in
-    rw here (ap (λ r. x ∷ r) (filter-all p xs (λ y m. h y (Contains-cons_rest x xs y m))))
 
 pub filter-flat_map_none : {X Y : Type 0} (p : Y → Bool) (F : X → List Y) (xs : List X)
     → ((x : X) → Contains xs x → filter p (F x) ≡ []) → filter p (flat_map F xs) ≡ []
@@ -118,6 +105,14 @@ whole_row stage before brought values part row is wide h =
       length-matching stage before brought values row is h,
     ))
 
+-- an answer through a row begins with the values that the row makes
+answer-front : (stages : List Stage) (stage : Stage) (before brought : ℕ) (values row x : List ℕ) →
+    IsStage stage before brought → length values ≡ before → Contains (matching stage values) row →
+    Contains (answers stages (grown stage values row)) x → take (before + brought) x ≡ grown stage values row
+answer-front stages stage before brought values row x is long held h =
+    ap (λ n. take n x) (sym (length-grown_matching stage before brought values row is long held))
+    ∙ chain-front stages (grown stage values row) x ((members stages (grown stage values row) x).0 h)
+
 -- the answers through a row that is below are below
 pub answers-below : (inclusive : Bool) (stages : List Stage) (stage : Stage) (before brought : ℕ)
     (values past part row : List ℕ) → IsStage stage before brought → length values ≡ before
@@ -125,16 +120,12 @@ pub answers-below : (inclusive : Bool) (stages : List Stage) (stage : Stage) (be
     → row_cmp row (key_of stage.keys values ++ part) ≡ Less
     → filter (is_past inclusive past) (answers stages (grown stage values row)) ≡ []
 answers-below inclusive stages stage before brought values past part row is long front held less =
-    filter-none (is_past inclusive past) (answers stages (grown stage values row)) fails
+    filter_none (is_past inclusive past) (answers stages (grown stage values row)) fails
   where
     fails : (x : List ℕ) → Contains (answers stages (grown stage values row)) x
         → is_past inclusive past x ≡ false
     fails x h =
-        let wide : length (grown stage values row) ≡ before + brought =
-        length-grown_matching stage before brought values row is long held in
-        let begins : take (before + brought) x ≡ grown stage values row = ap (λ n. take n x) (sym wide)
-        ∙ chain-front stages (grown stage values row) x
-        ((members stages (grown stage values row) x).0 h) in
+        let begins = answer-front stages stage before brought values row x is long held h in
         is_past-below inclusive past x
         (front_decides (before + brought) x past
         ((λ i. row_cmp (begins i) (front i)) ∙ grown-order stage values part row held ∙ less))
@@ -147,16 +138,12 @@ pub answers-above : (inclusive : Bool) (stages : List Stage) (stage : Stage) (be
     → filter (is_past inclusive past) (answers stages (grown stage values row)) ≡ answers stages
     (grown stage values row)
 answers-above inclusive stages stage before brought values past part row is long front held less =
-    filter-all (is_past inclusive past) (answers stages (grown stage values row)) passes
+    filter_whole (is_past inclusive past) (answers stages (grown stage values row)) passes
   where
     passes : (x : List ℕ) → Contains (answers stages (grown stage values row)) x
         → is_past inclusive past x ≡ true
     passes x h =
-        let wide : length (grown stage values row) ≡ before + brought =
-        length-grown_matching stage before brought values row is long held in
-        let begins : take (before + brought) x ≡ grown stage values row = ap (λ n. take n x) (sym wide)
-        ∙ chain-front stages (grown stage values row) x
-        ((members stages (grown stage values row) x).0 h) in
+        let begins = answer-front stages stage before brought values row x is long held h in
         is_past-above inclusive past x
         (front_decides (before + brought) past x
         ((λ i. row_cmp (front i) (begins i)) ∙ order-grown stage values part row held ∙ less))
@@ -218,7 +205,8 @@ module _ (stage : Stage) (before brought : ℕ) (values part : List ℕ) (from t
   above_here : (row : List ℕ) → from ≤ place → place < to → slice_get stage.rows place ≡ Some row
       → (row ≡ key_of stage.keys values ++ part → ⊥) → row_cmp (key_of stage.keys values ++ part) row ≡ Less
   above_here row l h at apart =
-      elim (not_below row (key_of stage.keys values ++ part) (not_below_first place row l h at (omega arith))) [
+      elim (not_below row (key_of stage.keys values ++ part)
+      (not_below_first place row l h at (omega arith))) [
         | inl e ↦ absurd (apart e)
         | inr g ↦ g
       ]

@@ -1,5 +1,5 @@
 -- The answers that are left before the first one.
-use Rattle.std.proofs.Common.{◌≡◌, ◌-◌, ◌<◌, ℕ, Bool, true, IsTrue, List, [], ◌∷◌, ◌++◌, length, take, filter}
+use Rattle.std.proofs.Common.{◌≡◌, ◌-◌, ◌<◌, ℕ, Bool, true, List, [], ◌∷◌, ◌++◌, length, take, filter}
 use Rattle.std.proofs.Common.{slice_range, slice_set, All, refl, sym, ap, ◌∙◌, subst, arith}
 use Rattle.std.proofs.lemmas.List.{take_all, get_or-set_same, append-nil}
 use Rattle.std.proofs.lemmas.List.Elements.{All-head}
@@ -16,7 +16,7 @@ use Rattle.pl_cursor.specs.Stages.{stages_of}
 use Rattle.pl_cursor.specs.Cursor.{AreAnswersPast}
 use Rattle.pl_cursor.specs.Kept.{NeverEnds, IsFrame, IsEntered, IsPosition}
 use Rattle.pl_cursor.proofs.Ascent.{ascending}
-use Rattle.pl_cursor.proofs.Seeking.{filter-all}
+use Rattle.pl_cursor.proofs.Filters.{filter_whole}
 use Rattle.pl_cursor.proofs.Links.{IsFilled, stages_laid, never_ends, answers_of}
 
 -- ---- the answers past something
@@ -29,12 +29,6 @@ none_past join passes empty = record {
   members = λ row. (λ h. absurd (Contains-nil row h), λ ((f, h, e), p). absurd (empty f h));
 }
 
-shows : (b : Bool) → IsTrue b → b ≡ true
-shows b t = grind arith
-
-says : (b : Bool) → b ≡ true → IsTrue b
-says b t = grind arith
-
 -- those of the stages that pass
 pub answers_past : (join : ReducedJoin) (passes : List ℕ → Bool) → IsReduced join → IsFilled join
     → AreAnswersPast join passes (filter passes (answers (stages_of join) []))
@@ -45,8 +39,8 @@ answers_past join passes is filled =
           (ascending (stages_of join) 0 (length join.classes) [] (stages_laid join is) refl);
       members = λ row. (
         λ h. (let (held, p) = Contains-from_filter passes all row h in
-            ((answers_of join is filled row).0 held, says (passes row) p)),
-        λ (h, p). Contains-filter passes all row ((answers_of join is filled row).1 h) (shows (passes row) p),
+            ((answers_of join is filled row).0 held, p)),
+        λ (h, p). Contains-filter passes all row ((answers_of join is filled row).1 h) p,
       );
     }
 
@@ -54,7 +48,7 @@ pub all_past : (join : ReducedJoin) → IsReduced join → IsFilled join
     → AreAnswersPast join (λ _. true) (answers (stages_of join) [])
 all_past join is filled =
     subst (AreAnswersPast join (λ _. true))
-    (filter-all (λ _. true) (answers (stages_of join) []) (λ x h. refl))
+    (filter_whole (λ _. true) (answers (stages_of join) []) (λ x h. refl))
     (answers_past join (λ _. true) is filled)
 
 -- ---- no stage
@@ -86,7 +80,7 @@ whole_first [] width frames answer to laid l m e = absurd (omega arith)
 whole_first (stage ∷ stages) width frames answer to (brought, is, rest) l m e =
     let keys : stage.keys ≡ [] = no_keys stage.keys is.keys in
     let all : matching stage [] ≡ stage.rows = ap (λ ks. filter (begins_with (key_of ks [])) stage.rows) keys
-    ∙ filter-all (begins_with []) stage.rows (λ row h. refl) in
+    ∙ filter_whole (begins_with []) stage.rows (λ row h. refl) in
     let here : frame_at (slice_set frames 0 (record { at = 0; to = to })) 0 ≡ record { at = 0; to = to } =
     get_or-set_same frames 0 (record { at = 0; to = to }) (record { at = 0; to = 0 }) m in
     let rows : slice_range stage.rows 0 to ≡ stage.rows = take_all (to - 0) stage.rows (omega arith) in

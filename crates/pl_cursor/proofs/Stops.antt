@@ -24,7 +24,7 @@ use Rattle.pl_cursor.proofs.Ranges.{range_none}
 use Rattle.pl_reduce.proofs.Places.{place_within}
 use Rattle.pl_cursor.proofs.Places.{key_read}
 use Rattle.pl_cursor.proofs.Following.{stages_at, before-width}
-use Rattle.pl_cursor.proofs.Links.{passing, length-stage_keys, stages_laid}
+use Rattle.pl_cursor.proofs.Links.{some_passes, length-stage_keys, stages_laid}
 
 -- the node where a stage stops, and what is read there
 pub record IsAtStop (join : ReducedJoin) (layout : Layout) (answer : List ℕ) (stage : Stage) (stop : Stop)
@@ -133,7 +133,7 @@ pub some_found : (key : List ℕ) (rows : List (List ℕ)) (from to : ℕ)
 some_found key rows from to any all = elim (cases_lt from to) [
   | inl l ↦ l
   | inr ge ↦ (
-      let (row, held, begins) = passing (begins_with key) rows any in
+      let (row, held, begins) = some_passes (begins_with key) rows any in
       absurd (Contains-nil row
       (subst (λ xs. Contains xs row) (sym all ∙ range_none rows from to ge)
       (Contains-filter (begins_with key) rows row held begins))))
@@ -201,8 +201,8 @@ stop_brings join layout t arity answer is l classes any =
     let there = at_stop join layout t answer is l in
     let (brought, kind, rest) = stages_at (stages_of join) 0 (length join.classes) t
     (stages_laid join is.reduced) (omega (arith, is.count)) in
-    let (row, held, begins) = passing (begins_with (key_of stage.keys (take stage.from answer))) stage.rows
-    any in
+    let (row, held, begins) = some_passes (begins_with (key_of stage.keys (take stage.from answer)))
+    stage.rows any in
     let wide = All-contains
     (λ r. length r ≡ length (node_at join.nodes (stop_at layout.stops.now t).node).relation.classes)
     stage.rows row there.wide held in

@@ -1,7 +1,7 @@
 -- What the parts of a cursor keep, and what the functions inside the crate promise each other.
 use Rattle.std.specs.Prelude.{◌≡◌, ◌+◌, ◌<◌, ◌≤◌, ◌++◌, ◌∷◌, ◌&&◌, [], ℕ, Bool, true, false, cond, List}
 use Rattle.std.specs.Prelude.{length, take, drop, filter, Contains, IsTrue, Some, slice_get, slice_index}
-use Rattle.std.specs.Prelude.{slice_index_or, slice_range}
+use Rattle.std.specs.Prelude.{slice_range}
 use Rattle.std.specs.List.{list_any}
 use Rattle.pl_rows.specs.Rows.{begins_with, AreRowsOf}
 use Rattle.pl_reduce.specs.Nodes.{ReducedJoin, node_at}

@@ -1,6 +1,6 @@
 //! A cursor: what callers make and ask.
 
-ghost use Rattle.std.specs.Prelude.{◌≡◌, ◌+◌, ◌*◌, ◌≤◌, ◌∷◌, [], ℕ, List, length, map, true, Some, None};
+ghost use Rattle.std.specs.Prelude.{◌≡◌, ◌+◌, ◌*◌, ◌≤◌, [], length, true, Some, None};
 ghost use Rattle.std.specs.Prelude.{option_map, slice_get, IfSome, IfNone};
 ghost use Rattle.pl_join.specs.Relation.{Assignment};
 ghost use Rattle.pl_reduce.specs.Reduced.{JoinHolds};

@@ -2,6 +2,7 @@
 
 ghost use Rattle.pl_cursor.specs.Kept.{IsLayout};
 
+use pl_reduce::laws::reduced_is_whole;
 use pl_reduce::{Reduced, Stop};
 
 /// The most classes that a join has.
@@ -20,8 +21,7 @@ impl<'r> Layout<'r> {
     pub fn of(reduced: &'r Reduced<'_>) -> Layout<'r>
         ensures { IsLayout reduced.now result }
     {
-        // The facts of a reduced join are clauses of its parts.
-        let _ = reduced.nodes();
+        reduced_is_whole(reduced);
         let laid = reduced.layout();
         Layout {
             stops: laid.stops(),

@@ -1,7 +1,7 @@
 //! A place in the walk over the rows of a join, and the step from an answer to the next.
 
-ghost use Rattle.std.specs.Prelude.{◌≡◌, ◌+◌, ◌*◌, ◌-◌, ◌<◌, ◌≤◌, ℕ, true, false, List, [], ◌∷◌, length};
-ghost use Rattle.std.specs.Prelude.{take, drop, map, All, IsTrue, slice_index, slice_get, Some};
+ghost use Rattle.std.specs.Prelude.{◌≡◌, ◌+◌, ◌*◌, ◌-◌, ◌<◌, ◌≤◌, ℕ, true, false, List, [], length};
+ghost use Rattle.std.specs.Prelude.{take, drop, map, All, IsTrue, slice_index};
 ghost use Rattle.std.specs.List.{list_any};
 ghost use Rattle.std.specs.Bool.{OnTrue, OnFalse};
 ghost use Rattle.pl_rows.specs.Rows.{begins_with};

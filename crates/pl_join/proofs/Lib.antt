@@ -7,7 +7,7 @@ pub mod Operations
 pub mod Gathering
 pub mod Joining
 pub mod Selecting
-mod Rising
+mod Copying
 pub mod Repeats
 mod Founds
 mod Empties

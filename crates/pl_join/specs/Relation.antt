@@ -1,6 +1,7 @@
 -- Relations as sets of assignments, and what the join, the projection, the semijoin and the selections of
 -- relations are.
 use Rattle.std.specs.Prelude.{◌≡◌, ◌≢◌, ◌↔◌, ◌<◌, ℕ, List, length, map, All, Contains, not, filter, Bool}
+use Rattle.std.specs.Prelude.{false}
 use Rattle.std.specs.List.{AllPairs, list_any}
 use Rattle.std.specs.Prelude.{◌==◌}
 use Rattle.pl_rows.specs.Rows.{AreRows}
@@ -77,6 +78,15 @@ IsSelectionOf rows slots selected = (f : Assignment) → Holds selected f
 pub record AreClassesOf (slots : List Slot) (classes : List ℕ) : Type 0 where
   pub rising : AllPairs (λ a b. a < b) classes
   pub members : (c : ℕ) → Contains classes c ↔ Contains slots (Class c)
+
+-- whether the slot is this class
+abbrev pub slot_is : ℕ → Slot → Bool
+slot_is c (Fixed value) = false
+slot_is c (Class class) = class == c
+
+-- the classes of an order that stand in the slots, in this order
+abbrev pub classes_in : List ℕ → List Slot → List ℕ
+classes_in order slots = filter (λ c. list_any (slot_is c) slots) order
 
 -- the slot's class, where it has one, is among these
 abbrev pub IsSlotOver : List ℕ → Slot → Type 0

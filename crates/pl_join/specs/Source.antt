@@ -8,7 +8,7 @@ use Rattle.pl_join.specs.declared.filters.Keep.{Keep}
 use Rattle.pl_join.specs.declared.filters.Keep.TheVariants.{Found, Missing}
 use Rattle.pl_join.specs.declared.slot.Slot.{Slot}
 use Rattle.pl_join.specs.declared.slot.Slot.TheVariants.{Class}
-use Rattle.pl_join.specs.Relation.{ClassRows, Assignment, AreDistinct, slot_value, has_class}
+use Rattle.pl_join.specs.Relation.{ClassRows, Assignment, AreDistinct, slot_value, has_class, classes_in}
 use Rattle.pl_join.specs.declared.source.Source.{Source}
 use Rattle.pl_join.specs.declared.source.Source.TheVariants.{Fixed, Column}
 use Rattle.pl_join.specs.declared.selection.Test.{Test}
@@ -51,10 +51,11 @@ is_kept keep rows sources row = keeps_where keep (has_row rows (looked_at source
 abbrev pub fits_slots : List Source → List ℕ → List ℕ → Bool
 fits_slots sources columns row = bytes_eq row (looked_at sources (picked columns row))
 
--- the slots are just these classes, and they rise
-pub record AreRisingClasses (slots : List Slot) (classes : List ℕ) : Type 0 where
-  pub slots_are : slots ≡ map Class classes
-  pub rising : AllPairs (λ a b. a < b) classes
+-- the numbers below the limit, rising
+pub record AreNumbersBelow (limit : ℕ) (numbers : List ℕ) : Type 0 where
+  pub rising : AllPairs (λ a b. a < b) numbers
+  pub below : All (λ c. c < limit) numbers
+  pub all : (c : ℕ) → c < limit → Contains numbers c
 
 -- whether the row has a test's value in its column
 abbrev pub passes : List ℕ → Test → Bool
@@ -86,11 +87,9 @@ pub record ArePlacesOf (slots : List Slot) (classes columns : List ℕ) : Type 0
   pub within : All (λ column. column < length slots) columns
   pub values : (f : Assignment) → picked columns (map (slot_value f) slots) ≡ map f classes
 
--- the classes of the slots that are below a number, and where they stand
-pub record IsGathered (slots : List Slot) (classes columns : List ℕ) (limit : ℕ) : Type 0 where
-  pub rising : AllPairs (λ a b. a < b) classes
-  pub below : All (λ c. c < limit) classes
-  pub members : (c : ℕ) → Contains classes c ↔ (Contains slots (Class c) × (c < limit))
+-- the classes of an order that stand in the slots, and where they stand
+pub record IsGathered (slots : List Slot) (order classes columns : List ℕ) : Type 0 where
+  pub classes_are : classes ≡ classes_in order slots
   pub places : ArePlacesOf slots classes columns
 
 -- the classes that are among the others, in their order; `without` has those that aren't

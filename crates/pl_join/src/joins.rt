@@ -7,6 +7,7 @@ ghost use Rattle.pl_rows.specs.Rows.{AreRows, SameRows};
 ghost use Rattle.pl_join.specs.Relation.{AreDistinct, IsJoinOf, IsProjectionOf, without};
 ghost use Rattle.pl_join.specs.Source.{glued, joined_with};
 
+use crate::laws::relation_is_one;
 use crate::projection::project;
 use crate::relation::Relation;
 use crate::semijoins::{other_classes, restricted, shared_classes};
@@ -67,7 +68,7 @@ fn indexed<L: Ledger>(
 {
     let order = appended(alloc, shared, rest)?;
     let arranged = project(alloc, relation, order.as_slice(), steps)?;
-    let _ = arranged.classes();
+    relation_is_one(&arranged);
     Indexed::build(alloc, arranged.into_table(), shared.len() as u32, steps)
 }
 

@@ -26,6 +26,6 @@ pub use joins::hash_join;
 pub use keyed::{Keyed, reduction_by_keyed, reduction_of_keyed};
 pub use projection::project;
 pub use relation::Relation;
-pub use selection::select;
+pub use selection::{select, select_in_order};
 pub use semijoins::{reduction, semijoin};
 pub use slot::Slot;

@@ -1,11 +1,12 @@
 //! The selection of a table's rows by slots.
 
-ghost use Rattle.std.specs.Prelude.{◌≡◌, ◌↔◌, ◌+◌, ◌<◌, ◌≤◌, ◌^◌, ℕ, List, length, map, filter};
-ghost use Rattle.std.specs.Prelude.{slice_get, All, Some, IsTrue, Contains, IfOk, OnOk, IfSome};
+ghost use Rattle.std.specs.Prelude.{◌≡◌, ◌↔◌, ◌+◌, ◌<◌, ◌≤◌, ◌^◌, ◌++◌, ◌∷◌, [], ℕ, List, length, map};
+ghost use Rattle.std.specs.Prelude.{filter, slice_get, All, Some, IsTrue, Contains, IfOk, OnOk, IfSome};
 ghost use Rattle.std.specs.Prelude.{IfNone};
 ghost use Rattle.pl_rows.specs.Rows.{AreRows, SameRows};
-ghost use Rattle.pl_join.specs.Relation.{AreClassesOf, IsSelectionOf, IsSlotBelow};
-ghost use Rattle.pl_join.specs.Source.{ArePlacesOf, AreRisingClasses, IsGathered, IsTestOf, IsWithin};
+ghost use Rattle.pl_join.specs.Relation.{AreClassesOf, AreDistinct, IsSelectionOf, IsSlotBelow, IsSlotOver};
+ghost use Rattle.pl_join.specs.Relation.{classes_in};
+ghost use Rattle.pl_join.specs.Source.{ArePlacesOf, AreNumbersBelow, IsGathered, IsTestOf, IsWithin};
 ghost use Rattle.pl_join.specs.Source.{value_at, picked, fits_slots, passes_all};
 
 use crate::relation::Relation;
@@ -36,75 +37,101 @@ pub fn select<L: Ledger>(
     ensures cost { steps.new ≤ steps.old + length table.now.rows }
     ensures rise { steps.old ≤ steps.new }
 {
-    match rising_classes(alloc, slots)? {
-        Some(classes) => Ok(Relation::new(classes, table.copied(alloc)?)),
-        None => fitting_relation(alloc, table, slots, steps),
-    }
+    let order = numbers_below(alloc, limit_of(slots))?;
+    select_in_order(alloc, table, slots, order.as_slice(), steps)
 }
 
-/// The classes of the slots, if all slots are classes, and these rise.
-fn rising_classes(alloc: Global, slots: &[Slot]) -> Result<Option<ShortList<u32>>, AllocError>
-    requires { All (IsSlotBelow 64) slots.now }
-    ensures classes { IfOk result (λ r. IfSome r (λ classes. AreRisingClasses slots.now classes.items)) }
-    ensures below { IfOk result (λ r. IfSome r (λ classes. All (λ c. c < 64) classes.items)) }
-{
-    let mut classes = ShortList::new(alloc);
-    let mut limit = 0;
-    for slot in slots {
-        let Some(class) = class_from(*slot, limit) else {
-            return Ok(None);
-        };
-        classes.push(class)?;
-        limit = class + 1;
-    }
-    Ok(Some(classes))
-}
-
-/// The slot's class, if it has one that is not below the limit.
-#[inline]
-fn class_from(slot: Slot, limit: u32) -> Option<u32>
-    ensures { IfSome result (λ class. (slot ≡ Slot.Class class) × (limit ≤ class)) }
-{
-    match slot {
-        Slot::Class(class) if limit <= class => Some(class),
-        _ => None,
-    }
-}
-
-/// The selection by slots that may be fixed, repeat a class or stand in any order.
-fn fitting_relation<L: Ledger>(
+/// The relation that `select` gives, over the classes in an order: those of the order that stand in the
+/// slots.
+///
+/// It takes at most one probe per row. Where the slots are just these classes, the table is copied; other
+/// rows are sorted unless they come out in order.
+pub fn select_in_order<L: Ledger>(
     alloc: Global,
     table: &Table,
     slots: &[Slot],
+    order: &[u32],
     steps: &mut Steps<L>,
 ) -> Result<Relation, AllocError>
     requires slots { All (IsSlotBelow 64) slots.now }
     requires arity { length slots.now ≡ table.now.arity }
-    ensures classes { IfOk result (λ r. AreClassesOf slots.now r.classes) }
+    requires distinct { AreDistinct order.now }
+    requires held { All (IsSlotOver order.now) slots.now }
+    ensures classes { IfOk result (λ r. r.classes ≡ classes_in order.now slots.now) }
     ensures rows { IfOk result (IsSelectionOf table.now.rows slots.now) }
     ensures cost { steps.new ≤ steps.old + length table.now.rows }
     ensures rise { steps.old ≤ steps.new }
 {
-    let (classes, columns) = classes_of(alloc, slots)?;
+    let (classes, columns) = classes_in(alloc, slots, order)?;
+    if are_just(slots, classes.as_slice()) {
+        return Ok(Relation::new(classes, table.copied(alloc)?));
+    }
+    fitting_relation(alloc, table, slots, classes, columns.as_slice(), steps)
+}
+
+/// The numbers below the limit, rising.
+fn numbers_below(alloc: Global, limit: u32) -> Result<ShortList<u32>, AllocError>
+    ensures { IfOk result (λ r. AreNumbersBelow limit r.items) }
+{
+    let mut numbers = ShortList::new(alloc);
+    for number in 0..limit {
+        numbers.push(number)?;
+    }
+    Ok(numbers)
+}
+
+/// Whether the slots are just these classes, one after another.
+fn are_just(slots: &[Slot], classes: &[u32]) -> bool
+    ensures { IsTrue result → slots.now ≡ map Slot.Class classes.now }
+{
+    if slots.len() != classes.len() {
+        return false;
+    }
+    for (place, slot) in slots.iter().enumerate() {
+        if !is_class(*slot, classes[place]) {
+            return false;
+        }
+    }
+    true
+}
+
+/// The selection by slots that may be fixed, repeat a class or stand in another order than the classes, each
+/// of which stands in one of the columns.
+fn fitting_relation<L: Ledger>(
+    alloc: Global,
+    table: &Table,
+    slots: &[Slot],
+    classes: ShortList<u32>,
+    columns: &[usize],
+    steps: &mut Steps<L>,
+) -> Result<Relation, AllocError>
+    requires arity { length slots.now ≡ table.now.arity }
+    requires distinct { AreDistinct classes.items }
+    requires below { All (λ c. c < 64) classes.items }
+    requires over { All (IsSlotOver classes.items) slots.now }
+    requires places { ArePlacesOf slots.now classes.items columns.now }
+    ensures classes { IfOk result (λ r. r.classes ≡ classes.items) }
+    ensures rows { IfOk result (IsSelectionOf table.now.rows slots.now) }
+    ensures cost { steps.new ≤ steps.old + length table.now.rows }
+    ensures rise { steps.old ≤ steps.new }
+{
     let sources = sources_of(alloc, classes.as_slice(), slots)?;
-    let kept = fitting_rows(alloc, table, columns.as_slice(), sources.as_slice(), steps)?;
+    let kept = fitting_rows(alloc, table, columns, sources.as_slice(), steps)?;
     Ok(Relation::new(classes, kept))
 }
 
-/// The classes of the slots by rising number, and for each class a place where it stands.
-fn classes_of(
+/// The classes of the order that stand in the slots, and for each of them a place where it stands.
+fn classes_in(
     alloc: Global,
     slots: &[Slot],
+    order: &[u32],
 ) -> Result<(ShortList<u32>, ShortList<usize>), AllocError>
-    requires { All (IsSlotBelow 64) slots.now }
-    ensures classes { IfOk result (λ r. AreClassesOf slots.now r.0.items) }
-    ensures below { IfOk result (λ r. All (λ c. c < 64) r.0.items) }
-    ensures places { IfOk result (λ r. ArePlacesOf slots.now r.0.items r.1.items) }
+    ensures { IfOk result (λ r. IsGathered slots.now order.now r.0.items r.1.items) }
 {
     let mut classes = ShortList::new(alloc);
     let mut columns = ShortList::new(alloc);
-    for class in 0..limit_of(slots) {
-        gather(slots, class, &mut classes, &mut columns)?;
+    for class in order {
+        gather(slots, *class, &mut classes, &mut columns)?;
     }
     Ok((classes, columns))
 }
@@ -138,16 +165,15 @@ fn limit_with(limit: u32, slot: Slot) -> u32
     }
 }
 
-/// Appends the class and a place where it stands, if it stands in the slots. Those before it are gathered
-/// already.
+/// Appends the class and a place where it stands, if it stands in the slots.
 fn gather(
     slots: &[Slot],
     class: u32,
     classes: &mut ShortList<u32>,
     columns: &mut ShortList<usize>,
 ) -> Result<(), AllocError>
-    requires { IsGathered slots.now classes.old.items columns.old.items class }
-    ensures { OnOk result (IsGathered slots.now classes.new.items columns.new.items (class + 1)) }
+    ensures { OnOk result ((done : List ℕ) → IsGathered slots.now done classes.old.items columns.old.items
+        → IsGathered slots.now (done ++ class ∷ []) classes.new.items columns.new.items) }
 {
     match place_in(slots, class) {
         None => Ok(()),

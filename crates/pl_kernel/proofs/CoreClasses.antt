@@ -1,6 +1,6 @@
 -- The classes of a core's relations, in the order in which a walk over its edges meets them.
 use Rattle.std.proofs.Common.{◌≡◌, ◌↔◌, ◌<◌, ℕ, zero, suc, List, [], ◌∷◌, ◌++◌, length, get_or, Contains, All}
-use Rattle.std.proofs.Common.{refl, sym, ap, ◌∙◌, subst, arith}
+use Rattle.std.proofs.Common.{refl, ap, ◌∙◌, arith}
 use Rattle.std.specs.Prelude.{slice_index, slice_index_or}
 use Rattle.std.specs.List.{flat_map}
 use Rattle.std.proofs.lemmas.List.Elements.{Contains-get_or}
@@ -8,7 +8,7 @@ use Rattle.pl_hyper.specs.Edges.{Holds}
 use Rattle.pl_hyper.specs.ClassOrder.{classes_of, first_appearances}
 use Rattle.pl_hyper.proofs.Orders.{in_classes, classes_contain, classes_rise}
 use Rattle.pl_hyper.proofs.Rising.{same_rising}
-use Rattle.pl_join.specs.Relation.{ClassRows, Holds as IsHeld, HoldsAll, IsJoinOfAll}
+use Rattle.pl_join.specs.Relation.{ClassRows, Holds as IsHeld, IsJoinOfAll}
 use Rattle.pl_kernel.specs.ClassesByAppearance.{rising, classes_by_appearance}
 use Rattle.pl_kernel.proofs.Meeting.{rising_rises, rising_contains}
 

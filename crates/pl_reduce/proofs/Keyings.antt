@@ -206,7 +206,7 @@ fixed_lent plan fixed arranged reduced lent is are keyed = record {
         (same_keyed _ q (keyed_at lent k) at e) (same_width plan k t.classes)
 
 -- what is lent is what was reduced
-lent_same : (plan : Removal) (reduced : List (Option ClassRows)) (lent : List (Option KeyedRows)) (k : ℕ)
+pub lent_same : (plan : Removal) (reduced : List (Option ClassRows)) (lent : List (Option KeyedRows)) (k : ℕ)
     → AreKeyedOf plan reduced lent → (option_at reduced k ≡ None)
     ⊎ ((r : ClassRows) × (option_at reduced k ≡ Some r))
     → option_at (map lent_of lent) k ≡ option_at reduced k

@@ -22,6 +22,7 @@ mod Beginnings
 mod Wholes
 mod Fixations
 mod Keyings
+mod Origins
 mod PlanNodes
 mod EdgeSets
 mod Laying

@@ -16,6 +16,12 @@ pub record IsArranged (order : List ℕ) (old new : ClassRows) : Type 0 where
   pub same : (f : Assignment) → Holds new f ↔ Holds old f
   pub fewer : length new.rows ≤ length old.rows
 
+-- a relation with its columns in order, where there is one and they didn't stand so
+abbrev pub IsArrangement : List ℕ → Option ClassRows → Option ClassRows → Type 0
+IsArrangement order None made = made ≡ None
+IsArrangement order (Some old) None = old.classes ≡ ordered order old.classes
+IsArrangement order (Some old) (Some made) = IsArranged order old made
+
 -- the relation of one node, if it has one, has its columns in order
 pub record IsArrangedAt (order : List ℕ) (old new : List (Option ClassRows)) (node : ℕ) : Type 0 where
   pub many : length new ≡ length old

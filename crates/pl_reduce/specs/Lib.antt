@@ -15,4 +15,5 @@ pub mod Lent
 pub mod Arranged
 pub mod Kept
 pub mod Runs
+pub mod Handed
 pub mod Fixing

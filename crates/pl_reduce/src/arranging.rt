@@ -5,7 +5,7 @@ ghost use Rattle.std.specs.Prelude.{◌↔◌, IsTrue};
 ghost use Rattle.pl_join.specs.Relation.{ClassRows, AreDistinct};
 ghost use Rattle.pl_reduce.specs.Recipes.{option_at};
 ghost use Rattle.pl_reduce.specs.Lent.{option_rows, own_rows};
-ghost use Rattle.pl_reduce.specs.Arranged.{ordered, IsArrangedAt, AreArrangedBelow};
+ghost use Rattle.pl_reduce.specs.Arranged.{ordered, IsArrangement, IsArrangedAt, AreArrangedBelow};
 
 use crate::pairs::own_at;
 use pl_join::{Relation, project};
@@ -53,17 +53,40 @@ fn arrange_node<L: Ledger>(
         → r.classes ≡ ordered order.now r.classes → steps.new ≡ steps.old }
     ensures rise { steps.old ≤ steps.new }
 {
+    if let Some(arranged) = arrangement(alloc, own, node, order, steps)? {
+        own[node] = Some(arranged);
+    }
+    Ok(())
+}
+
+/// The relation of a node with its columns in the order; None where there is none, or they stand so already,
+/// which takes no probe.
+pub fn arrangement<L: Ledger>(
+    alloc: Global,
+    own: &[Option<Relation>],
+    node: usize,
+    order: &[u32],
+    steps: &mut Steps<L>,
+) -> Result<Option<Relation>, AllocError>
+    requires within { node < length own.now }
+    requires distinct { AreDistinct order.now }
+    requires held { (r : ClassRows) → option_at own.now node ≡ Some r → All (Contains order.now) r.classes }
+    ensures arranged { IfOk result (IsArrangement order.now (option_at own.now node)) }
+    ensures cost { steps.new ≤ steps.old + option_rows (option_at own.now node) }
+    ensures no_cost { (r : ClassRows) → option_at own.now node ≡ Some r
+        → r.classes ≡ ordered order.now r.classes → steps.new ≡ steps.old }
+    ensures rise { steps.old ≤ steps.new }
+{
     let Some(relation) = own_at(own, node) else {
-        return Ok(());
+        return Ok(None);
     };
     let held = relation.classes();
     if is_in_order(order, held) {
-        return Ok(());
+        return Ok(None);
     }
     let classes = in_order(alloc, order, held)?;
     let arranged = project(alloc, relation, &classes, steps)?;
-    own[node] = Some(arranged);
-    Ok(())
+    Ok(Some(arranged))
 }
 
 /// Whether the classes stand in the order, each once.

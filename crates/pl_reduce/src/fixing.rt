@@ -11,9 +11,10 @@ ghost use Rattle.pl_reduce.specs.Passes.{Remains};
 ghost use Rattle.pl_reduce.specs.Fixing.{AreLentOf, AreTurnedOf, IsTurnedOf, IsFixedBy, IsPairReduction};
 ghost use Rattle.pl_reduce.specs.Fixing.{AreFixedFrom};
 ghost use Rattle.pl_reduce.specs.Fixing.{AreFixedPairs, IsKeyedOf, AreKeyedOf};
+ghost use Rattle.pl_reduce.specs.Handed.{handed_in};
 
-use crate::arranging::arrange_all;
 use crate::fitting::order_of;
+use crate::handed::{arrange_fixed, no_origins, put};
 use crate::pairs::own_at;
 use crate::storing::key;
 use pl_hyper::{Ear, EarPlan};
@@ -23,85 +24,63 @@ use std::alloc::{AllocError, Global};
 use std::sync::ledger::Ledger;
 
 /// The fixed relations, keyed by the classes that a node shares with its ear's parent, and without the rows
-/// that agree with no row of a fixed neighbour.
+/// that agree with no row of a fixed neighbour; and the origins, which are the given relations that are not
+/// the same.
 pub fn fix_all<L: Ledger>(
     alloc: Global,
     plan: &EarPlan,
-    fixed: &[Option<Relation>],
+    fixed: Vec<Option<Relation>>,
     classes: &[u32],
     parents: &[usize],
     steps: &mut Steps<L>,
-) -> Result<Vec<Option<Keyed>>, AllocError>
-    requires fixed { AreFixed plan.now fixed.now }
+) -> Result<(Vec<Option<Keyed>>, Vec<Option<Relation>>), AllocError>
+    requires fixed { AreFixed plan.now fixed.items }
     requires order { classes.now ≡ class_order plan.now }
     requires distinct { AreDistinct classes.now }
     requires classes { (c : ℕ) → Contains classes.now c ↔ IsClass plan.now.edges c }
     requires parents { AreParentNodes plan.now parents.now }
-    ensures lent { IfOk result (λ lent. AreLentOf plan.now fixed.now lent.items) }
-    ensures pairs { IfOk result (λ lent. AreFixedPairs parents.now (map lent_of lent.items)) }
-    ensures many { IfOk result (λ lent. length lent.items ≡ length fixed.now) }
+    ensures lent { IfOk result (λ r. AreLentOf plan.now fixed.items r.0.items) }
+    ensures pairs { IfOk result (λ r. AreFixedPairs parents.now (map lent_of r.0.items)) }
+    ensures handed { IfOk result (λ r. handed_in r.1.items (map lent_of r.0.items) ≡ fixed.items) }
     ensures rise { steps.old ≤ steps.new }
 {
     let ears = plan.removed();
-    let mut nodes = copied_all(alloc, fixed)?;
-    arrange_all(alloc, &mut nodes, classes, steps)?;
-    reduce_fixed(alloc, &mut nodes, parents, steps)?;
-    key_all(alloc, nodes, plan.edges(), ears, steps)
-}
-
-/// A copy of each relation.
-fn copied_all(
-    alloc: Global,
-    fixed: &[Option<Relation>],
-) -> Result<Vec<Option<Relation>>, AllocError>
-    ensures { IfOk result (λ nodes. nodes.items ≡ fixed.now) }
-{
-    let mut nodes = Vec::with_capacity(alloc, fixed.len())?;
-    for node in 0..fixed.len() {
-        nodes.push(copied_at(alloc, fixed, node)?)?;
-    }
-    Ok(nodes)
-}
-
-/// A copy of the relation of a node, if it has one.
-fn copied_at(
-    alloc: Global,
-    fixed: &[Option<Relation>],
-    node: usize,
-) -> Result<Option<Relation>, AllocError>
-    requires { node < length fixed.now }
-    ensures { IfOk result (λ r. r ≡ option_at fixed.now node) }
-{
-    match own_at(fixed, node) {
-        Some(relation) => Ok(Some(relation.copied(alloc)?)),
-        None => Ok(None),
-    }
+    let mut nodes = fixed;
+    let mut origins = no_origins(alloc, nodes.len())?;
+    arrange_fixed(alloc, &mut nodes, &mut origins, classes, steps)?;
+    reduce_fixed(alloc, &mut nodes, &mut origins, parents, steps)?;
+    let lent = key_all(alloc, nodes, plan.edges(), ears, steps)?;
+    Ok((lent, origins))
 }
 
 /// Reduces the relations of neighbours by each other: from the removed ears to the root, and back.
 fn reduce_fixed<L: Ledger>(
     alloc: Global,
     nodes: &mut Vec<Option<Relation>>,
+    origins: &mut Vec<Option<Relation>>,
     parents: &[usize],
     steps: &mut Steps<L>,
 ) -> Result<(), AllocError>
     requires filled { 0 < length nodes.old.items }
+    requires origins { length origins.old.items ≡ length nodes.old.items }
     requires many { length parents.now ≡ length nodes.old.items }
     requires within { (i : ℕ) → 0 < i → i < length parents.now
         → slice_index parents.now i < length nodes.old.items }
     requires remain { (i : ℕ) → 0 < i → i < length parents.now → Remains i (slice_index parents.now i) }
     ensures fixed { OnOk result (AreFixedFrom nodes.old.items nodes.new.items) }
     ensures pairs { OnOk result (AreFixedPairs parents.now nodes.new.items) }
+    ensures handed { OnOk result
+        (handed_in origins.new.items nodes.new.items ≡ handed_in origins.old.items nodes.old.items) }
     ensures rise { steps.old ≤ steps.new }
 {
     let last = nodes.len() - 1;
     for before in 0..last {
         let node = before + 1;
-        reduce_pair(alloc, nodes, parents[node], node, steps)?;
+        reduce_pair(alloc, nodes, origins, parents[node], node, steps)?;
     }
     for done in 0..last {
         let node = last - done;
-        reduce_pair(alloc, nodes, node, parents[node], steps)?;
+        reduce_pair(alloc, nodes, origins, node, parents[node], steps)?;
     }
     Ok(())
 }
@@ -110,18 +89,23 @@ fn reduce_fixed<L: Ledger>(
 fn reduce_pair<L: Ledger>(
     alloc: Global,
     nodes: &mut Vec<Option<Relation>>,
+    origins: &mut Vec<Option<Relation>>,
     keep: usize,
     by: usize,
     steps: &mut Steps<L>,
 ) -> Result<(), AllocError>
     requires keep { keep < length nodes.old.items }
     requires by { by < length nodes.old.items }
+    requires origins { length origins.old.items ≡ length nodes.old.items }
     ensures reduced { OnOk result (IsFixedBy nodes.old.items nodes.new.items keep by) }
     ensures many { length nodes.new.items ≡ length nodes.old.items }
+    ensures origins { length origins.new.items ≡ length origins.old.items }
+    ensures handed { handed_in origins.new.items nodes.new.items
+        ≡ handed_in origins.old.items nodes.old.items }
     ensures rise { steps.old ≤ steps.new }
 {
     if let Some(kept) = pair_reduction(alloc, nodes, keep, by, steps)? {
-        nodes[keep] = Some(kept);
+        put(nodes, origins, keep, kept);
     }
     Ok(())
 }

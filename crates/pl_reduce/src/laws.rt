@@ -1,4 +1,5 @@
-//! Laws of plans and of the relations over them, each the contract of a function that does nothing.
+//! Laws of plans, of the relations over them and of reduced joins, each the contract of a function that does
+//! nothing.
 
 ghost use Rattle.std.specs.Prelude.{◌≡◌, ◌↔◌, ◌<◌, ◌∷◌, [], ℕ, List, length, take, map, slice_index};
 ghost use Rattle.pl_hyper.specs.declared.ear.Ear.{Ear};
@@ -6,6 +7,9 @@ ghost use Rattle.pl_hyper.specs.Ears.{Removal, IsWalkable, ear_at};
 ghost use Rattle.pl_hyper.specs.ClassOrder.{classes_of, class_order};
 ghost use Rattle.pl_join.specs.Relation.{ClassRows, Assignment, Holds, HoldsAll, IsJoinOfAll};
 ghost use Rattle.pl_reduce.specs.Plan.{core_order, relation_at};
+ghost use Rattle.pl_reduce.specs.Reduced.{IsReduced};
+
+use crate::reduced::Reduced;
 
 /// The class order of a core of one edge is the order of that edge: its classes, rising.
 pub fn one_edge_has_its_own_order()
@@ -30,3 +34,10 @@ pub fn join_of_all_edges()
         → Holds (relation_at rest i) f ↔ Holds (relation_at relations (ear_at plan i d).edge) f)
         → (f : Assignment) → HoldsAll (root ∷ rest) f ↔ HoldsAll relations f }
 {}
+
+/// What is known of every reduced join: no row of its tables dangles.
+pub fn reduced_is_whole(reduced: &Reduced<'_>)
+    ensures { IsReduced reduced.now }
+{
+    let _ = reduced.nodes();
+}

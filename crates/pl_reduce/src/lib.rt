@@ -8,6 +8,7 @@
 mod arranging;
 mod fitting;
 mod fixing;
+mod handed;
 pub mod laws;
 mod layout;
 mod pairs;

@@ -8,6 +8,7 @@ use crate::fixing::{fix_all, turn_all};
 use crate::layout::Layout;
 use crate::parents::parent_nodes;
 use crate::reducer::edges_are_words;
+use pl_hyper::laws::plan_is_a_removal;
 use pl_hyper::{Ear, EarPlan};
 use pl_join::{Keyed, Relation};
 use pl_steps::Steps;
@@ -18,13 +19,14 @@ use std::sync::ledger::Ledger;
 /// A join some of whose relations are fixed: these are arranged, reduced among each other and keyed once.
 ///
 /// A reduction with it (`Reduced::reduce_with`) takes relations for the other nodes alone, and looks rows up
-/// in the fixed ones. Node 0 is the root, and node `i + 1` is the `i`-th removed ear.
+/// in the fixed ones. Node 0 is the root, and node `i + 1` is the `i`-th removed ear. A relation that was
+/// handed in is kept beside the lent one only where the two are not the same.
 #[derive(Drop)]
 pub struct Recipe {
     edges: Vec<u64>,
     ears: Vec<Ear>,
     core: Vec<u32>,
-    fixed: Vec<Option<Relation>>,
+    origins: Vec<Option<Relation>>,
     layout: Layout,
     parents: Vec<usize>,
     lent: Vec<Option<Keyed>>,
@@ -32,20 +34,24 @@ pub struct Recipe {
 }
 
 impl Model for Recipe {
+    ghost use Rattle.std.specs.Prelude.{map};
     ghost use Rattle.pl_reduce.specs.Recipes.{FixedJoin};
     ghost use Rattle.pl_reduce.specs.Layout.{IsLayoutFor};
+    ghost use Rattle.pl_reduce.specs.Lent.{lent_of};
+    ghost use Rattle.pl_reduce.specs.Handed.{handed_in};
     ghost use Rattle.pl_reduce.specs.Fixing.{IsRecipe};
 
     ghost Value = { FixedJoin };
 
     ghost view = { λ r. record {
       plan = record { edges = r.edges.items; removed = r.ears.items; core = r.core.items };
-      fixed = r.fixed.items;
+      fixed = handed_in r.origins.items (map lent_of r.lent.items);
     } };
 
     ghost invariant = { λ r. IsRecipe
         (record { edges = r.edges.items; removed = r.ears.items; core = r.core.items })
-        r.fixed.items r.layout.classes r.parents.items r.lent.items r.turned.items
+        (handed_in r.origins.items (map lent_of r.lent.items)) r.layout.classes r.parents.items r.lent.items
+        r.turned.items
         × IsLayoutFor (record { edges = r.edges.items; removed = r.ears.items; core = r.core.items })
         r.layout };
 }
@@ -68,11 +74,10 @@ impl Recipe {
         ensures rise { steps.old ≤ steps.new }
     {
         edges_are_words(plan.edges());
-        // The facts of a removal are clauses of its parts.
-        let _ = plan.removed();
+        plan_is_a_removal(plan);
         let layout = Layout::of(alloc, plan)?;
         let parents = parent_nodes(alloc, plan)?;
-        let lent = fix_all(alloc, plan, &fixed, layout.classes(), &parents, steps)?;
+        let (lent, origins) = fix_all(alloc, plan, fixed, layout.classes(), &parents, steps)?;
         let turned = turn_all(alloc, plan, &lent, &parents, steps)?;
         let edges = Vec::from_slice(alloc, plan.edges())?;
         let ears = Vec::from_slice(alloc, plan.removed())?;
@@ -81,7 +86,7 @@ impl Recipe {
             edges,
             ears,
             core,
-            fixed,
+            origins,
             layout,
             parents,
             lent,
@@ -94,7 +99,7 @@ impl Recipe {
         ensures nodes { result ≡ length self.now.fixed }
         ensures fixed { AreFixed self.now.plan self.now.fixed }
     {
-        self.fixed.len()
+        self.lent.len()
     }
 
     /// Whether a relation is fixed for the node.
@@ -102,7 +107,7 @@ impl Recipe {
         requires { node < length self.now.fixed }
         ensures { result ≡ is_some (option_at self.now.fixed node) }
     {
-        self.fixed[node].is_some()
+        self.lent[node].is_some()
     }
 
     /// The classes in class order: that in which the walk over the nodes meets them.

@@ -12,6 +12,7 @@ ghost use Rattle.pl_reduce.specs.Kept.{node_of, AreStored};
 use crate::pairs::lent_at;
 use crate::reduced::Stored;
 use pl_hyper::Ear;
+use pl_join::laws::keyed_is_a_relation;
 use pl_join::{Keyed, Relation};
 use pl_steps::Steps;
 use std::alloc::{AllocError, Global};
@@ -72,8 +73,7 @@ fn store<'r, L: Ledger>(
 {
     let Some(relation) = relation else {
         let lent = lent_at(lent, node);
-        // The facts of a relation are clauses of its parts.
-        let _ = lent.classes();
+        keyed_is_a_relation(lent);
         return Ok(Stored::Lent(lent));
     };
     Ok(Stored::Own(key(alloc, relation, node, edges, ears, steps)?))

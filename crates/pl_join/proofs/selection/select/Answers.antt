@@ -1,26 +1,28 @@
-use Rattle.std.proofs.Common.{◌∙◌, ap, sym, subst, IfSome}
-use Rattle.pl_rows.specs.Rows.{Rows}
-use Rattle.pl_join.specs.Source.{AreRisingClasses}
-use Rattle.pl_join.proofs.Rising.{rising_are, rising_many, rising_selected}
+use Rattle.std.proofs.Common.{◌≡◌, All, sym, subst}
+use Rattle.std.proofs.lemmas.Result.{IfOk-weaker}
+use Rattle.pl_join.specs.Relation.{ClassRows, AreClassesOf, AreDistinct, IsSlotOver, classes_in}
+use Rattle.pl_join.specs.Source.{AreNumbersBelow}
+use Rattle.pl_join.proofs.Gathering.{numbers_held, rising_classes, rising_distinct}
 use Rattle.pl_join.proofs.selection.select.Goals as goal
 
-pub new-requires-clause-arity : goal.new-requires-clause-arity
-new-requires-clause-arity g c =
-    let are = subst (λ o. IfSome o (λ classes. AreRisingClasses c.args.slots.now classes.items)) c.in-Some.is
-    c.in_ok-classes.ensures.classes in
-    ap (λ (t : Rows). t.arity) c.in_ok-copied-in-Some.ensures.same ∙ sym c.requires.arity
-    ∙ rising_many c.args.slots.now c.in-Some.classes.items are
+pub select_in_order-requires-clause-distinct : goal.select_in_order-requires-clause-distinct
+select_in_order-requires-clause-distinct g c =
+    subst AreDistinct (sym c.as_slice.ensures)
+    (rising_distinct c.in_ok-order.order.items c.in_ok-order.ensures.rising)
 
-pub returns-in_ok-copied-in-Some-clause-classes : goal.returns-in_ok-copied-in-Some-clause-classes
-returns-in_ok-copied-in-Some-clause-classes g c =
-    let are = subst (λ o. IfSome o (λ classes. AreRisingClasses c.args.slots.now classes.items)) c.in-Some.is
-    c.in_ok-classes.ensures.classes in
-    rw c.new-in-Some.ensures (rising_are c.args.slots.now c.in-Some.classes.items are)
+pub select_in_order-requires-clause-held : goal.select_in_order-requires-clause-held
+select_in_order-requires-clause-held g c =
+    subst (λ order. All (IsSlotOver order) c.args.slots.now) (sym c.as_slice.ensures)
+    (numbers_held c.args.slots.now c.in_ok-order.order.items c.limit_of.result c.in_ok-order.ensures
+    c.limit_of.ensures.below)
 
-pub returns-in_ok-copied-in-Some-clause-rows : goal.returns-in_ok-copied-in-Some-clause-rows
-returns-in_ok-copied-in-Some-clause-rows g c =
-    let are = subst (λ o. IfSome o (λ classes. AreRisingClasses c.args.slots.now classes.items)) c.in-Some.is
-    c.in_ok-classes.ensures.classes in
-    rising_selected c.args.table.now.rows c.args.slots.now c.in-Some.classes.items
-    c.in_ok-copied-in-Some.field-0 c.new-in-Some.result are
-    (ap (λ (t : Rows). t.rows) c.in_ok-copied-in-Some.ensures.same) c.new-in-Some.ensures
+pub returns-clause-classes : goal.returns-clause-classes
+returns-clause-classes g c =
+    IfOk-weaker c.select_in_order.result
+    (λ (r : ClassRows). r.classes ≡ classes_in c.as_slice.result.now c.args.slots.now)
+    (λ (r : ClassRows). AreClassesOf c.args.slots.now r.classes)
+    (λ r is. subst (AreClassesOf c.args.slots.now) (sym is)
+    (rising_classes c.args.slots.now c.as_slice.result.now c.limit_of.result
+    (subst (AreNumbersBelow c.limit_of.result) (sym c.as_slice.ensures) c.in_ok-order.ensures)
+    c.limit_of.ensures.below))
+    c.select_in_order.ensures.classes

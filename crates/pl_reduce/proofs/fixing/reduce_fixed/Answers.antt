@@ -1,4 +1,4 @@
-use Rattle.std.proofs.Common.{◌≡◌, ◌+◌, ◌-◌, arith}
+use Rattle.std.proofs.Common.{◌≡◌, ◌+◌, ◌-◌, ◌∙◌, refl, arith}
 use Rattle.pl_reduce.proofs.Fixations.{fixed_begins, fixed_goes_on, up_step_at, down_up_at, down_at}
 use Rattle.pl_reduce.proofs.fixing.reduce_fixed.Goals as goal
 
@@ -6,6 +6,8 @@ pub loop-before-init : goal.loop-before-init
 loop-before-init g c = record {
   many = omega (arith, c.len-last.ensures, c.requires.filled);
   fixed = fixed_begins c.args.nodes.now.items;
+  origins = c.requires.origins;
+  handed = refl;
   up = λ i some l. absurd (omega arith);
   rise = omega arith;
 }
@@ -24,6 +26,13 @@ loop-before-preserved g c = record {
   many = omega (arith, c.reduce_pair.ensures.many, c.loop-before.invariant.many);
   fixed = fixed_goes_on c.args.nodes.now.items c.loop-before.nodes.items c.reduce_pair.new.nodes.items _ _
       c.loop-before.invariant.fixed c.in_ok-reduce_pair.ensures.reduced;
+  origins = omega (
+    arith,
+    c.reduce_pair.ensures.origins,
+    c.reduce_pair.ensures.many,
+    c.loop-before.invariant.origins,
+  );
+  handed = c.reduce_pair.ensures.handed ∙ c.loop-before.invariant.handed;
   up = up_step_at c.args.parents.now c.loop-before.nodes.items c.reduce_pair.new.nodes.items
       c.loop-before.before c.in_ok-reduce_pair.ensures.reduced
       (c.requires.remain (c.loop-before.before + 1) (omega arith)
@@ -36,6 +45,8 @@ pub loop-done-init : goal.loop-done-init
 loop-done-init g c = record {
   many = c.loop-before.invariant.many;
   fixed = c.loop-before.invariant.fixed;
+  origins = c.loop-before.invariant.origins;
+  handed = c.loop-before.invariant.handed;
   up = λ i some l. c.loop-before.invariant.up i some
       (omega (
         arith,
@@ -62,6 +73,13 @@ loop-done-preserved g c =
       fixed = fixed_goes_on c.args.nodes.now.items c.loop-done.nodes.items
           c.reduce_pair-in-loop-done.new.nodes.items _ _ c.loop-done.invariant.fixed
           c.in_ok-reduce_pair-2.ensures.reduced;
+      origins = omega (
+        arith,
+        c.reduce_pair-in-loop-done.ensures.origins,
+        c.reduce_pair-in-loop-done.ensures.many,
+        c.loop-done.invariant.origins,
+      );
+      handed = c.reduce_pair-in-loop-done.ensures.handed ∙ c.loop-done.invariant.handed;
       up = down_up_at c.args.parents.now c.loop-done.nodes.items c.reduce_pair-in-loop-done.new.nodes.items
           (c.len-last.result - 1 - (c.loop-done.done + 1)) (c.len-last.result - 1 - c.loop-done.done) node
           c.in_ok-reduce_pair-2.ensures.reduced

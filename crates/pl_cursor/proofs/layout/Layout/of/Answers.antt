@@ -6,5 +6,5 @@ pub returns : goal.returns
 returns c =
     layout_kept c.args.reduced.now c.layout-laid.result.now
     (record { stops = c.stops.result; places = c.places.result; width = length c.classes.result.now })
-    c.nodes.ensures.reduced c.layout-laid.ensures c.stops.ensures c.places.ensures
+    c.reduced_is_whole.ensures c.layout-laid.ensures c.stops.ensures c.places.ensures
     (ap length c.classes.ensures)
