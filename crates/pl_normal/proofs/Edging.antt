@@ -4,7 +4,7 @@ use Rattle.std.proofs.Common.{◌≡◌, ℕ, ◌+◌, ◌<◌, ◌≤◌, ◌==
 use Rattle.std.proofs.Common.{List, [], ◌∷◌, length, take, get_or, refl, sym, ◌∙◌, ap, subst, Contains}
 use Rattle.std.proofs.Common.{eq-eqb}
 use Rattle.std.specs.Int.{bit_at}
-use Rattle.std.specs.List.{AllPairs, list_all}
+use Rattle.std.specs.List.{list_all}
 use Rattle.std.proofs.lemmas.Bool.{and_parts, and_from}
 use Rattle.std.proofs.lemmas.List.{take_more, take_all, get_or_default}
 use Rattle.std.proofs.lemmas.List.Folds.{list_all-append}
@@ -12,24 +12,17 @@ use Rattle.std.proofs.lemmas.List.Elements.{Contains-get_or}
 use Rattle.pl_task.specs.declared.data.Schema.{Schema}
 use Rattle.pl_task.specs.declared.task.Task.{Task}
 use Rattle.pl_task.specs.States.{State}
-use Rattle.pl_join.specs.Relation.{Assignment, ClassRows, Holds, IsRelation, IsSelectionOf, AreClassesOf}
+use Rattle.pl_join.specs.declared.slot.Slot.TheVariants.{Class}
+use Rattle.pl_join.specs.Relation.{Assignment, ClassRows, Holds, IsRelation, IsSelectionOf}
 use Rattle.pl_normal.specs.declared.form.Edge.{Edge}
 use Rattle.pl_normal.specs.declared.form.Placed.{Placed}
 use Rattle.pl_normal.specs.Edges.{edges_of}
 use Rattle.pl_normal.specs.Filters.{local_of, has_all, sieve_classes}
 use Rattle.pl_normal.specs.Query.{is_in_source, meets_edge, meets_sieve, values_of}
 use Rattle.pl_normal.specs.Queries.{IsEdgeOf, IsSieveOver, IsSieveOf, IsRelationAt, edge_at, lets_pass}
-use Rattle.pl_normal.specs.Queries.{meets_at}
+use Rattle.pl_normal.specs.Queries.{IsSieved, meets_at}
 use Rattle.pl_normal.proofs.Forms.{SchemaOf, local_from, local_sieve_of, home_is, sieve_over, no_edge}
 use Rattle.std.proofs.Math.Bool.{and-true}
-
--- the relation is over the edge's classes and has passed these of the local filters
-pub record IsSieved (task : Task) (schema : Schema) (s : State) (edge : Edge) (e : ℕ) (passed : List Placed)
-    (relation : ClassRows) : Type 0 where
-  pub rising : AllPairs (λ a b. a < b) relation.classes
-  pub classes : (c : ℕ) → Contains relation.classes c ↔ (bit_at edge.classes c ≡ 1)
-  pub rows : (f : Assignment) → Holds relation f ↔ IsTrue
-      (meets_edge task schema s f edge && list_all (lets_pass s f e) passed)
 
 pub true_is : (b : Bool) → IsTrue b → b ≡ true
 true_is b h = h
@@ -51,11 +44,10 @@ and_assoc false b c = refl
 pub selected : (task : Task) (schema : Schema) (s : State) (e : ℕ) (edge : Edge) (rows : List (List ℕ))
     (relation : ClassRows) → IsEdgeOf task schema edge →
     ((row : List ℕ) → Contains rows row ↔ IsTrue (is_in_source task schema s edge.source row)) →
-    AreClassesOf edge.slots relation.classes → IsSelectionOf rows edge.slots relation →
-    IsSieved task schema s edge e [] relation
-selected task schema s e edge rows relation is source classes selection = record {
-  rising = classes.rising;
-  classes = λ c. (λ h. (is.set c).1 ((classes.members c).0 h), λ h. (classes.members c).1 ((is.set c).0 h));
+    ((c : ℕ) → Contains relation.classes c ↔ Contains edge.slots (Class c)) →
+    IsSelectionOf rows edge.slots relation → IsSieved task schema s edge e [] relation
+selected task schema s e edge rows relation is source members selection = record {
+  classes = λ c. (λ h. (is.set c).1 ((members c).0 h), λ h. (members c).1 ((is.set c).0 h));
   rows = λ f. (
     λ h. subst IsTrue (sym (and-true (meets_edge task schema s f edge)))
         ((source (values_of f edge.slots)).0 ((selection f).0 h)),
@@ -92,7 +84,6 @@ pub passed_here : (task : Task) (schema : Schema) (s : State) (edge : Edge) (e i
     ((f : Assignment) → Holds new f ↔ (Holds old f × IsTrue (meets_sieve s f placed.sieve))) →
     IsSieved task schema s edge e (take (i + 1) local) new
 passed_here task schema s edge e i local placed old new low at is here classes rows = record {
-  rising = subst (λ xs. AllPairs (λ a b. a < b) xs) (sym classes) is.rising;
   classes = λ c. (
     λ h. (is.classes c).0 (subst (λ xs. Contains xs c) classes h),
     λ h. subst
@@ -119,7 +110,6 @@ pub passed_by : (task : Task) (schema : Schema) (s : State) (edge : Edge) (e i :
     IsSieved task schema s edge e (take i local) old → (placed.edge == e) ≡ false → new ≡ old →
     IsSieved task schema s edge e (take (i + 1) local) new
 passed_by task schema s edge e i local placed old new low at is other same = record {
-  rising = subst (λ (r : ClassRows). AllPairs (λ a b. a < b) r.classes) (sym same) is.rising;
   classes = subst (λ (r : ClassRows). (c : ℕ) → Contains r.classes c ↔ (bit_at edge.classes c ≡ 1))
       (sym same) is.classes;
   rows = λ f. (
@@ -177,7 +167,6 @@ all_passed task schema s edges edge e i local relation locals same end low here 
     (get_or_default edges e edge no_edge low ∙ ap (λ xs. get_or xs e no_edge) same) in
     let all : take i local ≡ local_of schema = take_all i local end ∙ locals in record {
       whole = whole;
-      rising = is.rising;
       classes = subst (λ (x : Edge). (c : ℕ) → Contains relation.classes c ↔ (bit_at x.classes c ≡ 1)) own
           is.classes;
       rows = λ f. subst (λ b. Holds relation f ↔ IsTrue b)

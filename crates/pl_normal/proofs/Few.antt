@@ -21,6 +21,7 @@ use Rattle.pl_join.proofs.Assignments.{value_of, row_held, map_agree}
 use Rattle.pl_join.proofs.Members.{Contains-filter}
 use Rattle.pl_normal.specs.declared.form.Edge.{Edge}
 use Rattle.pl_normal.specs.Measures.{edge_rows}
+use Rattle.pl_normal.specs.Queries.{AreEdgeRows}
 use Rattle.pl_normal.specs.Query.{is_in_source, meets_edge, values_of}
 use Rattle.pl_normal.specs.Steps.{tuples}
 use Rattle.pl_normal.proofs.Listing.{is_tuple}
@@ -96,11 +97,6 @@ go_into g (x ∷ xs) others sorted one held = by (taken_out others (g x) (held x
     by (rest, is) next = (let few = next rest is in let long = is.long in omega (arith, few, long))
 
 -- ---- the rows of an edge
-
--- all rows of a source are of objects, and as long as the edge has slots
-abbrev pub AreEdgeRows : Task → Schema → State → Edge → Type 0
-AreEdgeRows task schema s edge = (row : List ℕ) (x : ℕ) →
-    IsTrue (is_in_source task schema s edge.source row) → Contains row x → x < length task.objects
 
 abbrev tried : Task → Schema → State → Edge → List (List ℕ)
 tried task schema s edge = filter (is_in_source task schema s edge.source)

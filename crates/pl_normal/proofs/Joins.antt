@@ -1,10 +1,10 @@
 -- The nodes of a schema's join: the relation of a node from those of its edges, and the join of all nodes.
 use Rattle.std.proofs.Common.{◌≡◌, ◌≢◌, ℕ, ◌<◌, ◌≤◌, ◌==◌, ◌&&◌, ◌↔◌, inl, inr, zero, suc, Bool, true, false}
 use Rattle.std.proofs.Common.{not, ◌||◌, IsTrue, List, [], ◌∷◌, length, map, drop, append-nil, refl, sym, ◌∙◌}
-use Rattle.std.proofs.Common.{ap, subst, arith, All, Contains, eq-eqb}
+use Rattle.std.proofs.Common.{ap, subst, arith, All, Contains, Result, Ok, Err, IfOk, eq-eqb}
 use Rattle.std.specs.Prelude.{slice_index, slice_index_or}
 use Rattle.std.specs.Int.{bit_at}
-use Rattle.std.specs.List.{list_all, flat_map}
+use Rattle.std.specs.List.{AllPairs, list_all, flat_map}
 use Rattle.std.proofs.lemmas.Bool.{false≢true}
 use Rattle.std.proofs.lemmas.List.{length-map, get_or_default, get_or-map as list_map}
 use Rattle.std.proofs.lemmas.List.Elements.{All-contains, Contains-get_or, Contains-append_cases}
@@ -208,15 +208,21 @@ one_order plan e only =
     ∙ first_appearances-rising (classes_of (slice_index plan.edges e))
     (classes_rise (slice_index plan.edges e)))
 
+-- what two facts about a value give together
+pub if_both : {X E : Type 0} (r : Result X E) (P Q R : X → Type 0) → ((x : X) → P x → Q x → R x) → IfOk r P →
+    IfOk r Q → IfOk r R
+if_both (Ok x) P Q R both p q = both x p q
+if_both (Err e) P Q R both p q = tt
+
 -- the root, where one edge stays
 pub lone_root : (task : Task) (schema : Schema) (s : State) (e : ℕ) (relation : ClassRows) →
     SchemaOf task schema →
     (plan_of schema).core ≡ e ∷ [] → e < length (edges_of schema) → IsRelationAt task schema s e relation →
-    IsNodeRelation task schema s 0 relation
-lone_root task schema s e relation of only low is = record {
+    AllPairs (λ a b. a < b) relation.classes → IsNodeRelation task schema s 0 relation
+lone_root task schema s e relation of only low is rising = record {
   whole = is.whole;
   classes =
-      classes_of-rising (slice_index (plan_of schema).edges e) relation.classes is.rising
+      classes_of-rising (slice_index (plan_of schema).edges e) relation.classes rising
       (λ c. over_edge task schema s (plan_of schema).edges e c relation of (edges_here schema) low is)
       ∙ sym (one_order (plan_of schema) e only);
   rows = λ f. subst (λ xs. Holds relation f ↔ IsTrue (list_all (meets_at task schema s f) xs)) (sym only) (

@@ -19,6 +19,7 @@ pub mod Joins
 pub mod Leaving
 -- the functions that make a normal form
 mod Loops
+mod Homes
 mod Merging
 mod Tabling
 mod Numbers
@@ -26,6 +27,7 @@ pub mod KindLemmas
 -- the functions that make relations and recipes
 mod Pushing
 pub mod Relating
+mod OrderedEdges
 mod Sieving
 pub mod Unchanging
 mod Sharing

@@ -10,7 +10,8 @@ use Rattle.pl_task.specs.declared.data.Schema.{Schema}
 use Rattle.pl_task.specs.declared.task.Task.{Task}
 use Rattle.pl_task.specs.States.{State}
 use Rattle.pl_join.specs.declared.slot.Slot.{Slot}
-use Rattle.pl_join.specs.Relation.{Assignment, ClassRows, Holds, IsRelation, AreClassesOf, IsSelectionOf}
+use Rattle.pl_join.specs.declared.slot.Slot.TheVariants.{Class}
+use Rattle.pl_join.specs.Relation.{Assignment, ClassRows, Holds, IsRelation, IsSelectionOf}
 use Rattle.pl_join.specs.Relation.{AreUnequalOf, AreAbsentOf, slot_value}
 use Rattle.pl_reduce.specs.Plan.{relation_at}
 use Rattle.pl_normal.specs.declared.form.Edge.{Edge}
@@ -24,10 +25,10 @@ use Rattle.pl_normal.specs.Filters.{local_of}
 use Rattle.pl_normal.specs.Query.{is_in_source, meets_sieve, values_of}
 use Rattle.pl_normal.specs.Tables.{row_atom}
 use Rattle.pl_normal.specs.Queries.{IsSourceOf, IsArityOf, IsEdgeOf, IsSieveOver, IsRelationAt}
-use Rattle.pl_normal.specs.Queries.{AreRelationsAt, edge_at}
+use Rattle.pl_normal.specs.Queries.{AreRelationsAt, IsSieved, edge_at}
 use Rattle.pl_normal.proofs.Asking.{values_wide}
 use Rattle.pl_normal.proofs.Forms.{SchemaOf, edges_are, no_edge}
-use Rattle.pl_normal.proofs.Edging.{IsSieved, selected, filter_over, all_passed}
+use Rattle.pl_normal.proofs.Edging.{selected, filter_over, all_passed}
 
 -- ---- the rows that a filter lets pass
 
@@ -99,14 +100,14 @@ pub first_sieved : (task : Task) (schema : Schema) (s : State) (edges given : Li
     edges ≡ edges_of schema → given ≡ edges →
     e < length edges → edge ≡ get_or given e edge → slots ≡ edge.slots →
     ((row : List ℕ) → Contains rows row ↔ IsTrue (is_in_source task schema s edge.source row)) →
-    AreClassesOf slots relation.classes → IsSelectionOf rows slots relation →
+    ((c : ℕ) → Contains relation.classes c ↔ Contains slots (Class c)) → IsSelectionOf rows slots relation →
     IsSieved task schema s (edge_at edges e) e [] relation
 first_sieved task schema s edges given e edge rows slots relation is same read low at own members classes
     selection =
     subst (λ (x : Edge). IsSieved task schema s x e [] relation) (edge_here edges given e edge read low at)
     (selected task schema s e edge rows relation (edge_given task schema edges given e edge is same read low
     at) members
-    (subst (λ xs. AreClassesOf xs relation.classes) own classes)
+    (subst (λ xs. (c : ℕ) → Contains relation.classes c ↔ Contains xs (Class c)) own classes)
     (subst (λ xs. IsSelectionOf rows xs relation) own selection))
 
 pub over_here : (task : Task) (schema : Schema) (s : State) (edges : List Edge) (e i : ℕ)

@@ -14,9 +14,9 @@ use Rattle.pl_normal.specs.Edges.{edges_of}
 use Rattle.pl_normal.specs.Measures.{edge_rows}
 use Rattle.pl_normal.specs.Query.{is_in_source, meets_edge}
 use Rattle.pl_normal.specs.StateTables.{HasObjectRows}
-use Rattle.pl_normal.specs.Queries.{IsEdgeOf, edge_at, lets_pass}
-use Rattle.pl_normal.proofs.Edging.{IsSieved, and_split}
-use Rattle.pl_normal.proofs.Few.{AreEdgeRows, rows_within, table_few, relation_few}
+use Rattle.pl_normal.specs.Queries.{AreEdgeRows, IsEdgeOf, IsSieved, edge_at, lets_pass}
+use Rattle.pl_normal.proofs.Edging.{and_split}
+use Rattle.pl_normal.proofs.Few.{rows_within, table_few, relation_few}
 use Rattle.pl_normal.proofs.Forms.{SchemaOf, edge_of, no_edge}
 use Rattle.pl_normal.proofs.Relating.{edge_here}
 use Rattle.std.proofs.Math.Nat.{mul-le-mul_right}
@@ -78,9 +78,14 @@ pub filter_passed : (first before final i most : ℕ) → before ≤ first + i *
 filter_passed first before final i most old same = let more = times_more i (2 * most) in
     omega (arith, old, same, more)
 
--- the selection and all filters
-pub edge_taken : (start first after i many local rows most : ℕ) → first ≤ start + rows → rows ≤ most →
-    after ≤ first + i * (2 * most) → i ≤ many → many ≡ local → after ≤ start + (most + local * (2 * most))
-edge_taken start first after i many local rows most selected few filters low same = let all =
+-- all filters
+pub filters_taken : (first after i many local most : ℕ) → after ≤ first + i * (2 * most) → i ≤ many →
+    many ≡ local → after ≤ first + local * (2 * most)
+filters_taken first after i many local most filters low same = let all =
     mul-le-mul_right {m = i} {n = local} (2 * most) (omega (arith, low, same)) in
-    omega (arith, selected, few, filters, all)
+    omega (arith, filters, all)
+
+-- the selection and all filters
+pub edge_taken : (start first after rows most filters : ℕ) → first ≤ start + rows → rows ≤ most →
+    after ≤ first + filters → after ≤ start + (most + filters)
+edge_taken start first after rows most filters selected few passed = omega (arith, selected, few, passed)

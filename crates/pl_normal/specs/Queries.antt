@@ -3,7 +3,7 @@
 use Rattle.std.specs.Prelude.{◌≡◌, ◌↔◌, ◌<◌, ◌+◌, ◌*◌, ◌==◌, ◌&&◌, ◌||◌, ℕ, Bool, not, IsTrue, List, []}
 use Rattle.std.specs.Prelude.{length, All, Contains, Some, slice_get, slice_index}
 use Rattle.std.specs.Int.{bit_at}
-use Rattle.std.specs.List.{AllPairs, list_all}
+use Rattle.std.specs.List.{list_all}
 use Rattle.std.proofs.Common.{get_or}
 use Rattle.pl_task.specs.declared.data.Atom.{Atom}
 use Rattle.pl_task.specs.declared.data.PredicateDef.{PredicateDef}
@@ -26,7 +26,7 @@ use Rattle.pl_normal.specs.declared.form.Source.{Source}
 use Rattle.pl_normal.specs.declared.form.Source.TheVariants as source
 use Rattle.pl_normal.specs.Edges.{edges_of}
 use Rattle.pl_normal.specs.Filters.{local_of}
-use Rattle.pl_normal.specs.Query.{meets_edge, meets_sieve}
+use Rattle.pl_normal.specs.Query.{is_in_source, meets_edge, meets_sieve}
 
 -- the parameter or the predicate is there
 pub record IsSourceOf (task : Task) (schema : Schema) (from : Source) : Type 0 where
@@ -85,11 +85,22 @@ unfoldable pub meets_at : Task → Schema → State → Assignment → ℕ → B
 meets_at task schema s f e =
     meets_edge task schema s f (edge_at (edges_of schema) e) && list_all (lets_pass s f e) (local_of schema)
 
--- the relation of an edge: over its classes, rising, the assignments that meet it and its local filters
+-- all rows of the edge's source are of objects
+abbrev pub AreEdgeRows : Task → Schema → State → Edge → Type 0
+AreEdgeRows task schema s edge = (row : List ℕ) (x : ℕ) →
+    IsTrue (is_in_source task schema s edge.source row) → Contains row x → x < length task.objects
+
+-- the relation is over the edge's classes, in any order, and has passed these of the local filters
+pub record IsSieved (task : Task) (schema : Schema) (s : State) (edge : Edge) (e : ℕ) (passed : List Placed)
+    (relation : ClassRows) : Type 0 where
+  pub classes : (c : ℕ) → Contains relation.classes c ↔ (bit_at edge.classes c ≡ 1)
+  pub rows : (f : Assignment) → Holds relation f ↔ IsTrue
+      (meets_edge task schema s f edge && list_all (lets_pass s f e) passed)
+
+-- the relation of an edge: over its classes, in any order, the assignments that meet it and its local filters
 pub record IsRelationAt (task : Task) (schema : Schema) (s : State) (e : ℕ) (relation : ClassRows) : Type 0
   where
     pub whole : IsRelation relation
-    pub rising : AllPairs (λ a b. a < b) relation.classes
     pub classes : (c : ℕ) → Contains relation.classes c ↔ (bit_at (edge_at (edges_of schema) e).classes c ≡ 1)
     pub rows : (f : Assignment) → Holds relation f ↔ IsTrue (meets_at task schema s f e)
 

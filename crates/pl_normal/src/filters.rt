@@ -1,16 +1,20 @@
 //! The filters of a schema.
 
-ghost use Rattle.std.specs.Prelude.{◌≡◌, ◌<◌, ◌^◌, ◌++◌, length, All, IfOk, OnOk};
+ghost use Rattle.std.specs.Prelude.{◌≡◌, ◌<◌, ◌^◌, ◌++◌, List, length, All, IfOk, OnOk};
 ghost use Rattle.std.specs.List.{flat_map, position_from};
 ghost use Rattle.std.specs.Option.{option_to_list};
 ghost use Rattle.pl_join.specs.Relation.{IsSlotBelow};
 ghost use Rattle.pl_normal.specs.Filters.{literal_sieve, absent_over, unequal_over, sieves_of, sieve_classes};
 ghost use Rattle.pl_normal.specs.Filters.{has_all, home, local_at, late_at, local_among, late_among};
+ghost use Rattle.pl_normal.specs.declared.form.Edge.{Edge as EdgeOf};
+ghost use Rattle.pl_normal.specs.Edges.{sets_of};
 ghost use Rattle.pl_normal.specs.Slots.{slots_of};
 ghost use Rattle.pl_normal.specs.Scope.{IsTermBelow, IsLiteralBelow, IsSieveBelow};
 
+use crate::edges::sets_of;
 use crate::form::{Edge, Placed, Sieve};
 use crate::slots::{are_fixed, class_set, is_fixed, slot_of, slots_of};
+use pl_hyper::EdgeFinder;
 use pl_join::Slot;
 use pl_task::{Lifted, List, Literal};
 use std::alloc::{AllocError, Global};
@@ -37,12 +41,14 @@ pub fn filters(
     ensures late { IfOk result
         (λ f. f.late.items ≡ late_among edges.now (sieves_of slots.now condition.now)) }
 {
+    let sets = sets_of(alloc, edges)?;
+    let finder = EdgeFinder::new(alloc, sets.as_slice())?;
     let mut filters = FilterLists {
         local: Vec::new(alloc),
         late: Vec::new(alloc),
     };
     for literal in condition {
-        add_filter(alloc, &mut filters, edges, slots, literal)?;
+        add_filter(alloc, &mut filters, &finder, slots, literal)?;
     }
     Ok(filters)
 }
@@ -51,23 +57,22 @@ pub fn filters(
 fn add_filter(
     alloc: Global,
     filters: &mut FilterLists,
-    edges: &[Edge],
+    finder: &EdgeFinder,
     slots: &[Slot],
     literal: &Literal,
 ) -> Result<(), AllocError>
-    requires few { length edges.now < 2 ^ 32 }
     requires slots { All (IsSlotBelow 64) slots.now }
     requires literal { IsLiteralBelow (length slots.now) literal.now }
-    ensures local { OnOk result (filters.new.local.items
-        ≡ filters.old.local.items ++ flat_map (λ s. local_at (home edges.now s) s)
+    ensures local { (edges : List EdgeOf) → finder.now ≡ sets_of edges → OnOk result
+        (filters.new.local.items ≡ filters.old.local.items ++ flat_map (λ s. local_at (home edges s) s)
         (literal_sieve slots.now literal.now)) }
-    ensures late { OnOk result (filters.new.late.items
-        ≡ filters.old.late.items ++ flat_map (λ s. late_at (home edges.now s) s)
+    ensures late { (edges : List EdgeOf) → finder.now ≡ sets_of edges → OnOk result
+        (filters.new.late.items ≡ filters.old.late.items ++ flat_map (λ s. late_at (home edges s) s)
         (literal_sieve slots.now literal.now)) }
 {
     match sieve_of(alloc, slots, literal)? {
         None => Ok(()),
-        Some(sieve) => place(filters, edges, sieve),
+        Some(sieve) => place(filters, finder, sieve),
     }
 }
 
@@ -116,15 +121,14 @@ fn unequal_sieve(a: Slot, b: Slot) -> Option<Sieve>
 
 /// Appends a filter to those of its edge or to the late ones.
 #[tactic(auto, unfolding(crate::specs::Filters::home))]
-fn place(filters: &mut FilterLists, edges: &[Edge], sieve: Sieve) -> Result<(), AllocError>
-    requires few { length edges.now < 2 ^ 32 }
-    requires sieve { IsSieveBelow sieve }
-    ensures local { OnOk result (filters.new.local.items ≡ filters.old.local.items
-        ++ local_at (home edges.now sieve) sieve) }
-    ensures late { OnOk result (filters.new.late.items ≡ filters.old.late.items
-        ++ late_at (home edges.now sieve) sieve) }
+fn place(filters: &mut FilterLists, finder: &EdgeFinder, sieve: Sieve) -> Result<(), AllocError>
+    requires { IsSieveBelow sieve }
+    ensures local { (edges : List EdgeOf) → finder.now ≡ sets_of edges → OnOk result
+        (filters.new.local.items ≡ filters.old.local.items ++ local_at (home edges sieve) sieve) }
+    ensures late { (edges : List EdgeOf) → finder.now ≡ sets_of edges → OnOk result
+        (filters.new.late.items ≡ filters.old.late.items ++ late_at (home edges sieve) sieve) }
 {
-    match home(edges, sieve_classes(&sieve)) {
+    match home(finder, sieve_classes(&sieve)) {
         None => {
             filters.late.push(sieve)?;
             Ok(())
@@ -148,14 +152,9 @@ fn sieve_classes(sieve: &Sieve) -> u64
 }
 
 /// The first edge that has all the classes.
-fn home(edges: &[Edge], classes: u64) -> Option<u32>
-    requires { length edges.now < 2 ^ 32 }
-    ensures { result ≡ position_from (has_all classes) 0 edges.now }
+fn home(finder: &EdgeFinder, classes: u64) -> Option<u32>
+    ensures { (edges : List EdgeOf) → finder.now ≡ sets_of edges
+        → result ≡ position_from (has_all classes) 0 edges }
 {
-    for (i, edge) in edges.iter().enumerate() {
-        if classes & edge.classes == classes {
-            return Some(i as u32);
-        }
-    }
-    None
+    finder.first(classes)
 }

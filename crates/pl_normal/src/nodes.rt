@@ -14,8 +14,10 @@ ghost use Rattle.pl_normal.specs.Recipes.{is_fixed_node, node_edges, plan_of, ta
 use crate::fixed::are_fixed_edges;
 use crate::form::NormalSchema;
 use crate::query::Query;
-use crate::relations::{edge_relation, edge_relations};
+use crate::relations::{edge_relation, edge_relations, ordered_relation};
+use pl_hyper::laws::{acyclic_plan_keeps_one_edge, plan_is_a_removal};
 use pl_join::Relation;
+use pl_join::laws::relation_is_one;
 use pl_kernel::core_table;
 use pl_kernel::laws::core_classes_are_in_class_order;
 use pl_reduce::Recipe;
@@ -59,8 +61,7 @@ pub fn node_relations<L: Ledger>(
         → length (plan_of (schema_in query.now)).core ≤ 1) }
     ensures rise { steps.old ≤ steps.new }
 {
-    // What an acyclic plan is, is a clause of this call.
-    let _ = form.plan.is_acyclic();
+    acyclic_plan_keeps_one_edge(&form.plan);
     let ears = form.plan.removed();
     let mut nodes = Vec::with_capacity(alloc, ears.len() + 1)?;
     nodes.push(root_relation(alloc, query, form, share, recipe, steps)?)?;
@@ -118,15 +119,13 @@ fn core_relation<L: Ledger>(
     ensures rise { steps.old ≤ steps.new }
 {
     core_classes_are_in_class_order();
-    // What the parts of a plan are, is a clause of this call.
-    let _ = form.plan.core();
+    plan_is_a_removal(&form.plan);
     if core.len() == 1 {
         return edge_relation(alloc, query, form, core[0], steps);
     }
     let relations = edge_relations(alloc, query, form, core, steps)?;
     let root = core_table(alloc, &relations, steps)?;
-    // That it is a relation is a clause of its parts.
-    let _ = root.classes();
+    relation_is_one(&root);
     Ok(root)
 }
 
@@ -157,7 +156,7 @@ fn ear_relation<L: Ledger>(
     if !is_taken(share, is_fixed_node(query, form, recipe, node, &[number])) {
         return Ok(None);
     }
-    Ok(Some(edge_relation(alloc, query, form, number, steps)?))
+    Ok(Some(ordered_relation(alloc, query, form, number, steps)?))
 }
 
 /// Whether no state changes one of the node's edges: the recipe knows it, where there is one already.

@@ -1,17 +1,19 @@
 //! The relations of the edges of a schema's query in a state.
 
-ghost use Rattle.std.specs.Prelude.{◌≡◌, ◌≤◌, ◌<◌, ◌+◌, ◌*◌, ◌↔◌, All, length, IfOk, IsTrue};
-ghost use Rattle.std.specs.List.{sum_by};
-ghost use Rattle.pl_join.specs.Relation.{Assignment, Holds, IsRelation};
+ghost use Rattle.std.specs.Prelude.{◌≡◌, ◌≤◌, ◌<◌, ◌+◌, ◌*◌, ◌↔◌, [], All, length, IfOk, IsTrue};
+ghost use Rattle.std.specs.List.{AllPairs, sum_by};
+ghost use Rattle.pl_join.specs.Relation.{Assignment, Holds, IsRelation, classes_in};
 ghost use Rattle.pl_normal.specs.Asked.{IsQuery, task_in, schema_in, state_asked, source_rows};
+ghost use Rattle.pl_normal.specs.Edges.{edges_of};
 ghost use Rattle.pl_normal.specs.NormalForm.{IsNormalForm};
-ghost use Rattle.pl_normal.specs.Queries.{IsRelationAt, AreRelationsAt, IsSieveOf, IsSieveOver};
-ghost use Rattle.pl_normal.specs.Queries.{sieved_probes};
+ghost use Rattle.pl_normal.specs.Queries.{IsRelationAt, AreRelationsAt, IsSieveOf, IsSieveOver, IsSieved};
+ghost use Rattle.pl_normal.specs.Queries.{AreEdgeRows, edge_at, sieved_probes};
 ghost use Rattle.pl_normal.specs.Query.{meets_sieve};
 
 use crate::form::{NormalSchema, Sieve};
 use crate::query::{Query, source_table, true_atoms};
-use pl_join::{Relation, filter_absent, filter_unequal, select};
+use pl_join::laws::relation_is_one;
+use pl_join::{Relation, filter_absent, filter_unequal, select, select_in_order};
 use pl_steps::Steps;
 use std::alloc::{AllocError, Global};
 use std::sync::ledger::Ledger;
@@ -38,8 +40,8 @@ pub fn edge_relations<L: Ledger>(
     Ok(relations)
 }
 
-/// The relation of an edge: over its classes, the rows of its source that its slots and its local filters let
-/// pass.
+/// The relation of an edge: over its classes, rising, the rows of its source that its slots and its local
+/// filters let pass.
 ///
 /// It takes a probe for each row of the source, and for each local filter of the schema at most two more.
 pub fn edge_relation<L: Ledger>(
@@ -54,21 +56,76 @@ pub fn edge_relation<L: Ledger>(
     requires number { number < length form.now.edges }
     ensures relation { IfOk result
         (IsRelationAt (task_in query.now) (schema_in query.now) (state_asked query.now) number) }
+    ensures rising { IfOk result (λ r. AllPairs (λ a b. a < b) r.classes) }
     ensures cost { IfOk result
         (λ _. steps.new ≤ steps.old + sieved_probes form.now (source_rows query.now number)) }
     ensures rise { steps.old ≤ steps.new }
 {
     let edge = &form.edges.as_slice()[number as usize];
     let table = source_table(query, edge.source);
-    let mut relation = select(alloc, table, edge.slots.as_slice(), steps)?;
+    let selected = select(alloc, table, edge.slots.as_slice(), steps)?;
+    passing_rows(alloc, query, form, number, selected, steps)
+}
+
+/// The relation of an edge that `edge_relation` gives, over its classes in the order of the schema's
+/// parameters: so a reduction finds it in class order.
+pub fn ordered_relation<L: Ledger>(
+    alloc: Global,
+    query: &Query<'_>,
+    form: &NormalSchema,
+    number: u32,
+    steps: &mut Steps<L>,
+) -> Result<Relation, AllocError>
+    requires query { IsQuery query.now }
+    requires form { IsNormalForm (task_in query.now) (schema_in query.now) form.now }
+    requires number { number < length form.now.edges }
+    ensures relation { IfOk result
+        (IsRelationAt (task_in query.now) (schema_in query.now) (state_asked query.now) number) }
+    ensures classes { IfOk result
+        (λ r. r.classes ≡ classes_in form.now.order (edge_at form.now.edges number).slots) }
+    ensures cost { IfOk result
+        (λ _. steps.new ≤ steps.old + sieved_probes form.now (source_rows query.now number)) }
+    ensures rise { steps.old ≤ steps.new }
+{
+    let edge = &form.edges.as_slice()[number as usize];
+    let table = source_table(query, edge.source);
+    let order = form.order.as_slice();
+    let selected = select_in_order(alloc, table, edge.slots.as_slice(), order, steps)?;
+    passing_rows(alloc, query, form, number, selected, steps)
+}
+
+/// The rows of an edge's selection that its local filters let pass. It takes at most two probes a row for
+/// each local filter of the schema.
+fn passing_rows<L: Ledger>(
+    alloc: Global,
+    query: &Query<'_>,
+    form: &NormalSchema,
+    number: u32,
+    selected: Relation,
+    steps: &mut Steps<L>,
+) -> Result<Relation, AllocError>
+    requires query { IsQuery query.now }
+    requires form { IsNormalForm (task_in query.now) (schema_in query.now) form.now }
+    requires number { number < length form.now.edges }
+    requires selected { IsSieved (task_in query.now) (schema_in query.now) (state_asked query.now)
+        (edge_at form.now.edges number) number [] selected }
+    requires objects { AreEdgeRows (task_in query.now) (schema_in query.now) (state_asked query.now)
+        (edge_at (edges_of (schema_in query.now)) number) }
+    ensures relation { IfOk result
+        (IsRelationAt (task_in query.now) (schema_in query.now) (state_asked query.now) number) }
+    ensures classes { IfOk result (λ r. r.classes ≡ selected.classes) }
+    ensures cost { IfOk result
+        (λ _. steps.new ≤ steps.old + length form.now.local * (2 * source_rows query.now number)) }
+    ensures rise { steps.old ≤ steps.new }
+{
+    let mut relation = selected;
     let local = form.local.as_slice();
     for placed in local {
         if placed.edge == number {
             relation = sieved(alloc, query, &relation, &placed.sieve, steps)?;
         }
     }
-    // That it is a relation is a clause of its parts.
-    let _ = relation.classes();
+    relation_is_one(&relation);
     Ok(relation)
 }
 
@@ -90,8 +147,7 @@ fn sieved<L: Ledger>(
     ensures cost { steps.new ≤ steps.old + 2 * length relation.now.rows }
     ensures rise { steps.old ≤ steps.new }
 {
-    // That it is a relation is a clause of its parts.
-    let _ = relation.classes();
+    relation_is_one(relation);
     match sieve {
         Sieve::NotEqual(a, b) => filter_unequal(alloc, relation, *a, *b, steps),
         Sieve::Absent(predicate, slots) => {

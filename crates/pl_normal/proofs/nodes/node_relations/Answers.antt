@@ -56,14 +56,14 @@ returns-clause-cost g c = λ acyclic.
     c.args.form.now c.args.form.now.plan c.removed-ears.result.now c.loop-ear.ear-index c.args.steps.now
     c.root_relation.new.steps c.loop-ear.steps c.requires.form.plan c.removed-ears.ensures.removed
     c.loop-ear-test.false
-    (c.in_ok-root_relation.ensures.cost (c.is_acyclic.ensures.core.0 (c.is_acyclic.ensures.acyclic.1
+    (c.in_ok-root_relation.ensures.cost (c.acyclic_plan_keeps_one_edge.ensures.0
     (subst IsAcyclic (sym (ap (λ (p : Removal). p.edges) c.requires.form.plan ∙ edges_here
-    c.args.query.now.schema.now)) acyclic))))
+    c.args.query.now.schema.now)) acyclic)))
     c.loop-ear.invariant.2
 
 pub returns-clause-core : goal.returns-clause-core
 returns-clause-core g c = λ acyclic.
     subst (λ (p : Removal). length p.core ≤ 1) c.requires.form.plan
-    (c.is_acyclic.ensures.core.0 (c.is_acyclic.ensures.acyclic.1
+    (c.acyclic_plan_keeps_one_edge.ensures.0
     (subst IsAcyclic (sym (ap (λ (p : Removal). p.edges) c.requires.form.plan ∙ edges_here
-    c.args.query.now.schema.now)) acyclic)))
+    c.args.query.now.schema.now)) acyclic))

@@ -1,8 +1,7 @@
-use Rattle.std.proofs.Common.{◌≤◌, ◌+◌, ◌*◌, take}
+use Rattle.std.proofs.Common.{◌≡◌, ◌≤◌, ◌+◌, ◌*◌, take}
 use Rattle.pl_normal.specs.Asked.{state_asked, source_rows}
-use Rattle.pl_normal.specs.Queries.{edge_at}
-use Rattle.pl_normal.proofs.Edging.{IsSieved}
-use Rattle.pl_normal.proofs.relations.edge_relation.Given as goal
+use Rattle.pl_normal.specs.Queries.{IsSieved, edge_at}
+use Rattle.pl_normal.proofs.relations.passing_rows.Given as goal
 
 abbrev pub invariant-loop-placed : goal.invariant-loop-placed
 invariant-loop-placed g l =
@@ -10,3 +9,4 @@ invariant-loop-placed g l =
     l.number (take l.placed-index l.local) l.relation
     × (l.initial.steps ≤ l.steps)
     × (l.steps ≤ l.initial.steps + l.placed-index * (2 * source_rows l.query l.number))
+    × (l.relation.classes ≡ l.initial.relation.classes)
