@@ -8,7 +8,8 @@ pub mod StuckLemmas
 pub mod Deciding
 -- closures that are fit for a pruner
 pub mod Cuts
--- for searches: one step of an expanded state
+-- for searches: the initial state, and one step of an expanded state
+pub mod Firsts
 pub mod Trials
 -- the task of the tests
 pub mod TwinLemmas

@@ -1,6 +1,6 @@
--- Hopeless states by the literals of the goal, one by one, and by what is decided once a task.
+-- Hopeless states by what is decided once a task.
 use Rattle.std.proofs.Common.{◌≡◌, ◌↔◌, ◌⊎◌, ◌+◌, ◌<◌, ◌≤◌, ℕ, Bool, true, false, not, cond, IsTrue, List, []}
-use Rattle.std.proofs.Common.{◌∷◌, ◌++◌, length, get_or, Some, slice_get, Contains, Any, refl, sym, ap, ◌∙◌}
+use Rattle.std.proofs.Common.{◌∷◌, ◌++◌, length, get_or, Some, slice_get, Contains, refl, sym, ap, ◌∙◌}
 use Rattle.std.proofs.Common.{subst, inl, inr, arith}
 use Rattle.std.proofs.lemmas.Bool.{cases_Bool, cases_order, false≢true}
 use Rattle.std.proofs.lemmas.Option.{slice_get_within, slice_get-get_or, get_or_from_slice_get}
@@ -14,28 +14,7 @@ use Rattle.pl_state.specs.StateOf.{is_fluent_in, state_in}
 use Rattle.pl_state.proofs.StatesOfWords.{state_in-other}
 use Rattle.pl_registry.proofs.Lists.{Contains-nil}
 use Rattle.pl_hooks.specs.Fixed.{FixedGoal, IsLost, IsHeld, IsHeldAt, IsFixedGoal}
-use Rattle.pl_hooks.proofs.Fixings.{FirstAre, all_at, same_there}
-
--- the literal is not stuck in the state
-abbrev pub IsFree : Task → State → GoalLiteral → Type 0
-IsFree task s g = IsStuck task s g → ⊥
-
-pub hopeless_at : (task : Task) (s : State) (goal : List GoalLiteral) (i : ℕ) (g : GoalLiteral)
-    → goal ≡ task.goal → i < length goal → g ≡ get_or goal i g → IsStuck task s g → IsTrue true
-    ↔ IsHopeless task s
-hopeless_at task s goal i g are within reads stuck =
-    ((λ _. subst (Any (IsStuck task s)) are (i, g, within, sym reads, stuck)), (λ _. refl))
-
-pub hopeful : (task : Task) (s : State) (goal : List GoalLiteral) (i : ℕ) → goal ≡ task.goal → length goal ≤ i
-    → FirstAre (IsFree task s) goal i → IsTrue false ↔ IsHopeless task s
-hopeful task s goal i are past first = (
-  (λ no_truth. absurd (false≢true no_truth)),
-  (λ hopeless. absurd (none (subst (Any (IsStuck task s)) (sym are) hopeless))),
-)
-  where
-    none : Any (IsStuck task s) goal → ⊥
-    none (k, g, within, is, stuck) = first k g (omega (arith, within, past))
-        (slice_get-get_or goal k g within ∙ ap Some is) stuck
+use Rattle.pl_hooks.proofs.Fixings.{all_at, same_there}
 
 -- what is decided when this many of the goal's literals have been looked at
 pub record IsFixedUpTo (task : Task) (goal : List GoalLiteral) (i : ℕ) (lost : Bool)
@@ -215,6 +194,12 @@ pub held_well : (task : Task) (n : ℕ) (g : GoalLiteral) → IsHeldAt task n �
     → IsAtomOf task.objects task.predicates g.atom
 held_well task n g held reads = all_at (λ (x : GoalLiteral). IsAtomOf task.objects task.predicates x.atom)
     task.goal n g reads (held_within task n held) task.goal_ok.each
+
+pub held_fluent : (task : Task) (n : ℕ) (g : GoalLiteral) → IsHeldAt task n → g ≡ get_or task.goal n g
+    → is_fluent_in task g.atom.predicate ≡ true
+held_fluent task n g (x, at, held) reads =
+    subst (λ (y : GoalLiteral). is_fluent_in task y.atom.predicate ≡ true)
+    (sym (same_there task.goal n g x reads at)) held.opens
 
 -- the literal with the number is met
 abbrev pub IsMetAt : Task → State → ℕ → Type 0

@@ -96,7 +96,6 @@ fn has_object(terms: &[Term], objects: &[u32], n: u32, object: u32) -> bool
     true
 }
 
-/// Whether the term is the parameter.
 fn is_parameter(term: Term, n: u32) -> bool
     ensures { IsTrue result ↔ (term ≡ one.Parameter n) }
 {

@@ -1,6 +1,7 @@
-//! The test for hopeless states, with what the effects could change worked out once.
+//! The test for states from which an unmet literal of the goal can never be met, with what the effects could
+//! change worked out once.
 
-ghost use Rattle.std.specs.Prelude.{◌≡◌, ◌↔◌, ◌<◌, false, true, IfOk, IsTrue, Some, slice_get, length};
+ghost use Rattle.std.specs.Prelude.{◌≡◌, ◌↔◌, ◌<◌, false, true, IfOk, IsTrue, length};
 ghost use Rattle.pl_task.specs.States.{initial};
 ghost use Rattle.pl_task.specs.Goal.{is_goal_met, IsHopeless};
 ghost use Rattle.pl_task.specs.WellFormed.{IsAtomOf};
@@ -9,8 +10,7 @@ ghost use Rattle.pl_state.specs.Statics.{AreStaticAtoms};
 ghost use Rattle.pl_hooks.specs.Fixed.{IsHeld, IsLost, IsFixedGoal};
 
 use crate::fixed::is_fixed;
-use crate::stuck::is_met;
-use pl_state::{Packed, StaticAtoms};
+use pl_state::{Packed, StaticAtoms, holds_fluent};
 use pl_task::{GoalLiteral, Task};
 use std::alloc::{AllocError, Global};
 use std::marker::Model;
@@ -57,7 +57,8 @@ impl HopelessTest {
         Ok(HopelessTest { lost, fixed })
     }
 
-    /// Whether the state is hopeless, as `hopeless` says.
+    /// Whether the state is hopeless: no effect could change the atom of some literal of the goal that is not
+    /// met.
     pub fn is_hopeless(&self, task: &Task, state: &Packed) -> bool
         requires goal { IsFixedGoal task.now self.now }
         requires state { IsStateOf task.now state.now }
@@ -74,6 +75,17 @@ impl HopelessTest {
         }
         false
     }
+}
+
+/// Whether the state meets the literal over a fluent predicate.
+fn is_met(task: &Task, state: &Packed, literal: &GoalLiteral) -> bool
+    requires state { IsStateOf task.now state.now }
+    requires atom { IsAtomOf task.now.objects task.now.predicates literal.now.atom }
+    requires fluent { is_fluent_in task.now literal.now.atom.predicate ≡ true }
+    ensures { result ≡ is_goal_met (state_in task.now state.now) literal.now }
+{
+    let atom = &literal.atom;
+    holds_fluent(task, state, atom.predicate, atom.objects.as_slice()) == literal.wanted
 }
 
 /// Whether the literal is over a fluent predicate, and no effect could change its atom.
@@ -102,7 +114,6 @@ fn is_lost(statics: &StaticAtoms, task: &Task, literal: &GoalLiteral) -> bool
     is_fixed(task, literal)
 }
 
-/// Whether the predicate is fluent.
 fn is_fluent(task: &Task, predicate: u32) -> bool
     requires { predicate < length task.now.predicates }
     ensures { result ≡ is_fluent_in task.now predicate }

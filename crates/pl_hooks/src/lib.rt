@@ -13,13 +13,11 @@ mod hopeless_test;
 pub mod laws;
 mod pruner;
 mod ranker;
-mod stuck;
 mod trying;
 
 pub use hopeless_test::HopelessTest;
 pub use pruner::Pruner;
 pub use ranker::Ranker;
-pub use stuck::hopeless;
 pub use trying::try_step;
 
 #[cfg(test)]

@@ -1,7 +1,8 @@
 //! Hooks on a small task, worked by hand.
 
 ghost use Rattle.std.specs.Prelude.{◌≡◌, ◌↔◌, false, IfOk, IsTrue};
-ghost use Rattle.pl_task.specs.Goal.{unmet as unmet_in, IsHopeless};
+ghost use Rattle.pl_task.specs.Goal.{unmet, IsHopeless};
+ghost use Rattle.pl_state.specs.Decided.{IsDecidedGoal};
 ghost use Rattle.pl_state.specs.StateOf.{state_in, IsStateOf};
 ghost use Rattle.pl_hooks.specs.Fixed.{IsFixedGoal};
 
@@ -9,7 +10,7 @@ mod twins;
 
 use crate::{HopelessTest, Pruner, Ranker};
 use pl_samples::{AtomCase, atoms, places};
-use pl_state::{Packed, pack, unmet};
+use pl_state::{GoalTest, Packed, pack};
 use pl_task::Task;
 use std::alloc::{AllocError, Global};
 use std::test::Fail;
@@ -70,11 +71,12 @@ fn is_hopeless_cut(test: &HopelessTest, task: &Task, state: &Packed) -> bool
 }
 
 /// The answer of a ranker that counts by the goal of the task.
-fn rank_of(task: &Task, state: &Packed) -> u32
-    requires { IsStateOf task.now state.now }
-    ensures { result ≡ unmet_in task.now (state_in task.now state.now) }
+fn rank_of(goal: &GoalTest, task: &Task, state: &Packed) -> u32
+    requires goal { IsDecidedGoal task.now goal.now }
+    requires state { IsStateOf task.now state.now }
+    ensures { result ≡ unmet task.now (state_in task.now state.now) }
 {
-    let ranker = Ranker::new(task, |state: &Packed| unmet(task, state));
+    let ranker = Ranker::new(task, |state: &Packed| goal.unmet(task, state));
     ranker.rank(state)
 }
 
@@ -82,10 +84,11 @@ fn rank_of(task: &Task, state: &Packed) -> u32
 fn hooks_are_asked(rt: HostRuntime) -> Result<(), Fail> {
     let alloc = rt.alloc();
     let task = places(alloc, 4, false)?;
+    let goal = GoalTest::of(alloc, &task)?;
     for (i, case) in RANKS.iter().enumerate() {
         let state = packed(alloc, &task, case.atoms)?;
         assert!(rt; !is_cut(&task, &state), "case {i}");
-        assert_eq!(rt; rank_of(&task, &state), case.rank, "case {i}");
+        assert_eq!(rt; rank_of(&goal, &task, &state), case.rank, "case {i}");
     }
     Ok(())
 }

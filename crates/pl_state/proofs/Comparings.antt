@@ -44,11 +44,24 @@ module _ (xs ys : List ℕ) where
       (λ h. apart ((slice_eq-Decides Decides-eqb xs ys (pointwise nat_eq xs ys) refl).0 h)))
 
   -- the last group decides
-  pub last_agree : (at : ℕ) (found : Bool) → 8 ≤ length xs → length xs ≡ length ys → length xs ≤ at + 8 →
-      AgreeBetween 0 at xs ys → (found ≡ true → xs ≡ ys → ⊥) →
-      (found ≡ false → AgreeBetween (length xs - 8) (length xs - 8 + 8) xs ys) →
+  pub last_decides : (at count : ℕ) (found : Bool) → count ≤ length xs → length xs ≡ length ys →
+      length xs ≤ at + count → AgreeBetween 0 at xs ys → (found ≡ true → xs ≡ ys → ⊥) →
+      (found ≡ false → AgreeBetween (length xs - count) (length xs - count + count) xs ys) →
       not found ≡ pointwise nat_eq xs ys
-  last_agree at true many same left before apart alike = agree_not (apart refl)
-  last_agree at false many same left before apart alike =
-      agree_all (length xs - 8 + 8) same (omega arith)
-      (agree_on (length xs - 8) (length xs - 8 + 8) at (omega arith) before (alike refl))
+  last_decides at count true many same left before apart alike = agree_not (apart refl)
+  last_decides at count false many same left before apart alike =
+      agree_all (length xs - count + count) same (omega arith)
+      (agree_on (length xs - count) (length xs - count + count) at (omega arith) before (alike refl))
+
+  -- the first and the last words decide, where they are all
+  pub ends_decide : (count : ℕ) (end other : List ℕ) (found : Bool) → count ≤ length xs →
+      length xs ≡ length ys → length xs ≤ count + count → end ≡ drop (length xs - count) xs →
+      other ≡ drop (length xs - count) ys → (found ≡ true → xs ≡ ys → end ≡ other → ⊥) →
+      (found ≡ false → AgreeBetween 0 count xs ys) → (found ≡ false → AgreeBetween 0 count end other) →
+      not found ≡ pointwise nat_eq xs ys
+  ends_decide count end other true many same all end_is other_is apart first second =
+      agree_not (λ is. apart refl is (end_is ∙ ap (drop (length xs - count)) is ∙ sym other_is))
+  ends_decide count end other false many same all end_is other_is apart first second =
+      agree_all (length xs - count + count) same (omega arith)
+      (agree_on (length xs - count) (length xs - count + count) count (omega arith) (first refl)
+      (agree_behind (length xs - count) count end other false end_is other_is second refl))

@@ -5,7 +5,7 @@ use Rattle.std.proofs.Common.{count_by, ◌^◌}
 use Rattle.std.specs.List.{list_all, filter}
 use Rattle.std.proofs.lemmas.Bool.{cases_Bool, true≢false, false≢true}
 use Rattle.std.proofs.lemmas.List.{append-nil, take_all}
-use Rattle.std.proofs.lemmas.List.Elements.{filter_more, All-filter}
+use Rattle.std.proofs.lemmas.List.Elements.{filter_more, filter_passes, All-filter}
 use Rattle.std.proofs.lemmas.List.Sums.{sum_by-cons, count_by_more_yes, count_by_more_no}
 use Rattle.pl_task.specs.declared.data.GoalLiteral.{GoalLiteral}
 use Rattle.pl_task.specs.declared.task.Task.{Task}
@@ -148,6 +148,12 @@ literals_well task literals are =
     subst (All (λ (g : GoalLiteral). IsAtomOf task.objects task.predicates g.atom)) (sym are)
     (All-filter (is_open task) (λ (g : GoalLiteral). IsAtomOf task.objects task.predicates g.atom) task.goal
     task.goal_ok.each)
+
+-- and over fluent predicates
+pub literals_fluent : (task : Task) (literals : List GoalLiteral) →
+    literals ≡ filter (is_open task) task.goal → All (λ (g : GoalLiteral). is_open task g ≡ true) literals
+literals_fluent task literals are = subst (All (λ (g : GoalLiteral). is_open task g ≡ true)) (sym are)
+    (filter_passes (is_open task) task.goal)
 
 -- the literals so far are decided
 pub record IsDecidedUpTo (task : Task) (goal : List GoalLiteral) (i missed : ℕ)

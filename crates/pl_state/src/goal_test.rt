@@ -1,6 +1,6 @@
 //! The goal of a task, with what no step changes decided once.
 
-ghost use Rattle.std.specs.Prelude.{◌≡◌, ◌<◌, false, IfOk, length};
+ghost use Rattle.std.specs.Prelude.{◌≡◌, ◌<◌, false, true, IfOk, length};
 ghost use Rattle.pl_task.specs.States.{initial};
 ghost use Rattle.pl_task.specs.Goal.{is_goal, is_goal_met, unmet as unmet_in};
 ghost use Rattle.pl_task.specs.WellFormed.{IsAtomOf};
@@ -8,7 +8,7 @@ ghost use Rattle.pl_state.specs.StateOf.{is_fluent_in, state_in, IsStateOf};
 ghost use Rattle.pl_state.specs.Decided.{IsDecidedGoal};
 ghost use Rattle.pl_state.specs.Statics.{AreStaticAtoms};
 
-use crate::goal::is_met;
+use crate::fluents::holds_fluent;
 use crate::packed::Packed;
 use crate::statics::StaticAtoms;
 use pl_task::{Atom, GoalLiteral, List, Task};
@@ -54,7 +54,7 @@ impl GoalTest {
         Ok(GoalTest { missed, literals })
     }
 
-    /// Whether the state is a goal state, as `goal_holds` says.
+    /// Whether the state is a goal state: each literal of the goal is met.
     pub fn holds(&self, task: &Task, state: &Packed) -> bool
         requires goal { IsDecidedGoal task.now self.now }
         requires state { IsStateOf task.now state.now }
@@ -71,7 +71,7 @@ impl GoalTest {
         true
     }
 
-    /// The number of goal literals, repeats counted, that are not met, as `unmet` says.
+    /// The number of goal literals, repeats counted, that are not met.
     pub fn unmet(&self, task: &Task, state: &Packed) -> u32
         requires goal { IsDecidedGoal task.now self.now }
         requires state { IsStateOf task.now state.now }
@@ -104,6 +104,17 @@ fn is_met_initially(statics: &StaticAtoms, task: &Task, literal: &GoalLiteral) -
 {
     let atom = &literal.atom;
     statics.has(task, atom.predicate, atom.objects.as_slice()) == literal.wanted
+}
+
+/// Whether the state meets the literal over a fluent predicate.
+fn is_met(task: &Task, state: &Packed, literal: &GoalLiteral) -> bool
+    requires state { IsStateOf task.now state.now }
+    requires atom { IsAtomOf task.now.objects task.now.predicates literal.now.atom }
+    requires fluent { is_fluent_in task.now literal.now.atom.predicate ≡ true }
+    ensures { result ≡ is_goal_met (state_in task.now state.now) literal.now }
+{
+    let atom = &literal.atom;
+    holds_fluent(task, state, atom.predicate, atom.objects.as_slice()) == literal.wanted
 }
 
 /// A copy of the literal.

@@ -8,7 +8,7 @@ mod applying;
 mod comparing;
 mod count;
 mod effect;
-mod goal;
+mod fluents;
 mod goal_test;
 mod hashing;
 pub mod laws;
@@ -21,7 +21,7 @@ mod statics;
 mod tabling;
 
 pub use applying::apply;
-pub use goal::{goal_holds, holds, unmet};
+pub use fluents::holds_fluent;
 pub use goal_test::GoalTest;
 pub use packed::Packed;
 pub use packing::pack;

@@ -7,7 +7,7 @@ ghost use Rattle.pl_state.specs.Layout.{atom_of};
 ghost use Rattle.pl_state.specs.StateOf.{is_fluent_in, state_in, IsStateOf};
 ghost use Rattle.pl_state.specs.Statics.{IsAtomTable, AreStaticAtoms};
 
-use crate::goal::holds_fluent;
+use crate::fluents::holds_fluent;
 use crate::packed::Packed;
 use crate::packing::atom_table;
 use pl_rows::bisect::has_row;
@@ -53,7 +53,7 @@ impl StaticAtoms {
         table_has(&self.tables[predicate as usize], args)
     }
 
-    /// Whether an atom of the task is true in the state, as `holds` says, by bisection alone.
+    /// Whether an atom of the task is true in the state, by bisection alone.
     pub fn holds(&self, task: &Task, state: &Packed, predicate: u32, args: &[u32]) -> bool
         requires statics { AreStaticAtoms task.now self.now }
         requires state { IsStateOf task.now state.now }

@@ -3,9 +3,7 @@
 ghost use Rattle.std.specs.Prelude.{IfOk};
 ghost use Rattle.pl_state.specs.StateOf.{IsStateOf};
 
-use crate::{
-    GoalTest, Packed, StaticAtoms, apply, goal_holds, holds, pack, tables, true_rows, unmet,
-};
+use crate::{GoalTest, Packed, StaticAtoms, apply, holds_fluent, pack, tables, true_rows};
 use pl_samples::{AtomCase, atoms, is_atom, places};
 use pl_task::{StepRef, Task};
 use std::alloc::{AllocError, Global};
@@ -191,18 +189,21 @@ fn steps_are_applied(rt: HostRuntime) -> Result<(), Fail> {
     Ok(())
 }
 
-/// Whether the atom is one of the task, and both ways to ask a state for it answer as the case has it.
+/// Whether the atom is one of the task, and each way to ask a state for it answers as the case has it.
 fn is_told(alloc: Global, task: &Task, case: &HeldCase) -> Result<bool, AllocError> {
     let (predicate, objects) = case.atom;
     if !is_atom(task, predicate, objects) {
         return Ok(false);
     }
     let state = packed(alloc, task, case.atoms)?;
-    if holds(task, &state, predicate, objects) != case.held {
+    let statics = StaticAtoms::of(alloc, task)?;
+    if statics.holds(task, &state, predicate, objects) != case.held {
         return Ok(false);
     }
-    let statics = StaticAtoms::of(alloc, task)?;
-    Ok(statics.holds(task, &state, predicate, objects) == case.held)
+    if task.predicates.as_slice()[predicate as usize].is_static {
+        return Ok(true);
+    }
+    Ok(holds_fluent(task, &state, predicate, objects) == case.held)
 }
 
 #[test]
@@ -215,12 +216,9 @@ fn states_are_asked(rt: HostRuntime) -> Result<(), Fail> {
     Ok(())
 }
 
-/// Whether both ways to ask a state for the goal count so many unmet literals.
+/// Whether the state leaves so many literals of the goal unmet.
 fn is_counted(alloc: Global, task: &Task, case: &GoalCase) -> Result<bool, AllocError> {
     let state = packed(alloc, task, case.atoms)?;
-    if unmet(task, &state) != case.unmet || goal_holds(task, &state) != (case.unmet == 0) {
-        return Ok(false);
-    }
     let goal = GoalTest::of(alloc, task)?;
     Ok(goal.unmet(task, &state) == case.unmet && goal.holds(task, &state) == (case.unmet == 0))
 }

@@ -5,7 +5,7 @@ ghost use Rattle.pl_task.specs.WellFormed.{IsAtomOf};
 ghost use Rattle.pl_hooks.specs.Twins.{bare, twice, marked, nobody, twin};
 
 use super::{is_hopeless_cut, packed};
-use crate::{HopelessTest, hopeless};
+use crate::HopelessTest;
 use pl_samples::{AtomCase, atom, definition, is_atom, literal, objects};
 use pl_task::{GoalLiteral, Lifted, List, Parameter, Schema, Task, Term, TypeDef};
 use std::alloc::{AllocError, Global};
@@ -185,7 +185,7 @@ fn with_goal(alloc: Global, task: Task, literal: GoalLiteral) -> Result<Task, Al
     })
 }
 
-/// Whether `hopeless`, the test and a pruner all answer as the case has it.
+/// Whether the test and a pruner both answer as the case has it.
 fn is_answered(alloc: Global, case: &HopelessCase) -> Result<bool, AllocError> {
     let task = twins(alloc)?;
     if !is_atom(&task, case.predicate, case.objects) {
@@ -194,9 +194,6 @@ fn is_answered(alloc: Global, case: &HopelessCase) -> Result<bool, AllocError> {
     let literal = literal(alloc, case.predicate, case.objects, case.wanted)?;
     let task = with_goal(alloc, task, literal)?;
     let state = packed(alloc, &task, case.atoms)?;
-    if hopeless(&task, &state) != case.hopeless {
-        return Ok(false);
-    }
     let test = HopelessTest::of(alloc, &task)?;
     if test.is_hopeless(&task, &state) != case.hopeless {
         return Ok(false);

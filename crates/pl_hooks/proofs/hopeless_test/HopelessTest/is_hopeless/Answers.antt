@@ -3,8 +3,8 @@ use Rattle.pl_task.specs.declared.data.GoalLiteral.{GoalLiteral}
 use Rattle.pl_state.specs.StateOf.{state_in}
 use Rattle.pl_hooks.specs.Fixed.{FixedGoal, IsHeldAt}
 use Rattle.pl_hooks.proofs.Fixings.{first_more}
-use Rattle.pl_hooks.proofs.StuckLemmas.{IsMetAt, number_at, held_at, held_within, held_well, met_at}
-use Rattle.pl_hooks.proofs.StuckLemmas.{lost_hopeless, missed_hopeless, kept}
+use Rattle.pl_hooks.proofs.StuckLemmas.{IsMetAt, number_at, held_at, held_within, held_well, held_fluent}
+use Rattle.pl_hooks.proofs.StuckLemmas.{met_at, lost_hopeless, missed_hopeless, kept}
 use Rattle.pl_hooks.proofs.hopeless_test.HopelessTest.is_hopeless.Goals as goal
 
 pub returns-then-self : goal.returns-then-self
@@ -31,6 +31,18 @@ is_met-requires-clause-atom c =
     c.deref-number-items.result.now c.loop-number.number-index c.requires.goal are
     c.loop-number-test.true in
     held_well c.args.task.now n c.index-goal-number.result held
+    (c.index-goal-number.is ∙ ap (λ (gs : List GoalLiteral). get_or gs n c.index-goal-number.result)
+    c.as_slice-goal.ensures)
+
+pub is_met-requires-clause-fluent : goal.is_met-requires-clause-fluent
+is_met-requires-clause-fluent c =
+    let are : c.deref-number-items.result.now ≡ c.args.self.now.fixed = c.deref-number-items.ensures.value
+    ∙ ap (λ (v : FixedGoal). v.fixed) c.self.view_is in
+    let n : ℕ = get_or c.deref-number-items.result.now c.loop-number.number-index 0 in
+    let held : IsHeldAt c.args.task.now n = held_at c.args.task.now c.args.self.now
+    c.deref-number-items.result.now c.loop-number.number-index c.requires.goal are
+    c.loop-number-test.true in
+    held_fluent c.args.task.now n c.index-goal-number.result held
     (c.index-goal-number.is ∙ ap (λ (gs : List GoalLiteral). get_or gs n c.index-goal-number.result)
     c.as_slice-goal.ensures)
 

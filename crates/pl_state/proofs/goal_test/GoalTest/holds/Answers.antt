@@ -1,4 +1,4 @@
-use Rattle.std.proofs.Common.{◌≡◌, ◌<◌, ◌≤◌, List, length, false, sym, ap, subst, ◌∙◌, arith}
+use Rattle.std.proofs.Common.{◌≡◌, ◌<◌, ◌≤◌, List, length, false, true, sym, ap, subst, ◌∙◌, arith}
 use Rattle.std.specs.List.{filter, list_all}
 use Rattle.std.proofs.lemmas.List.{take_all}
 use Rattle.std.proofs.lemmas.List.Elements.{All-get_or}
@@ -9,6 +9,7 @@ use Rattle.pl_task.specs.WellFormed.{IsAtomOf}
 use Rattle.pl_state.specs.StateOf.{state_in}
 use Rattle.pl_state.specs.Decided.{DecidedGoal, is_open}
 use Rattle.pl_state.proofs.Decidings.{goal_missed, goal_unmet, goal_met, literals_well}
+use Rattle.pl_state.proofs.Decidings.{literals_fluent}
 use Rattle.pl_state.proofs.goal_test.GoalTest.holds.Goals as goal
 
 pub returns-then-self-gt0 : goal.returns-then-self-gt0
@@ -28,6 +29,17 @@ is_met-requires-clause-atom c =
     c.deref-literal-items.result.now c.loop-literal.literal-index c.literal-item.result
     c.loop-literal-test.true
     (literals_well c.args.task.now c.deref-literal-items.result.now are))
+
+pub is_met-requires-clause-fluent : goal.is_met-requires-clause-fluent
+is_met-requires-clause-fluent c =
+    let are : c.deref-literal-items.result.now ≡ filter (is_open c.args.task.now) c.args.task.now.goal =
+    c.deref-literal-items.ensures.value ∙ ap (λ (v : DecidedGoal). v.literals) c.self.view_is ∙
+    c.requires.goal.literals_are in
+    subst (λ (g : GoalLiteral). is_open c.args.task.now g ≡ true) (sym c.literal-item.is)
+    (All-get_or (λ (g : GoalLiteral). is_open c.args.task.now g ≡ true)
+    c.deref-literal-items.result.now c.loop-literal.literal-index c.literal-item.result
+    c.loop-literal-test.true
+    (literals_fluent c.args.task.now c.deref-literal-items.result.now are))
 
 pub returns-then-not-is_met : goal.returns-then-not-is_met
 returns-then-not-is_met c =
