@@ -5,7 +5,6 @@ use Rattle.std.proofs.lemmas.List.Elements.{All-nil, All-cons}
 use Rattle.std.proofs.lemmas.Option.{same_Some}
 use Rattle.pl_task.specs.declared.data.Atom.{Atom}
 use Rattle.pl_task.specs.declared.data.GoalLiteral.{GoalLiteral}
-use Rattle.pl_task.specs.declared.data.Lifted.{Lifted}
 use Rattle.pl_task.specs.declared.data.ObjectDef.{ObjectDef}
 use Rattle.pl_task.specs.declared.data.Parameter.{Parameter}
 use Rattle.pl_task.specs.declared.data.PredicateDef.{PredicateDef}

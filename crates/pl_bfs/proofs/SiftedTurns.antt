@@ -20,7 +20,7 @@ use Rattle.pl_registry.specs.declared.ended.Ended.{Ended}
 use Rattle.pl_registry.specs.declared.ended.Stats.{Stats}
 use Rattle.pl_registry.specs.declared.ended.Outcome.{Outcome}
 use Rattle.pl_registry.specs.declared.ended.Outcome.TheVariants as outcome
-use Rattle.pl_registry.specs.Ending.{Ending, ending_of, capped, IsWidthEnding}
+use Rattle.pl_registry.specs.Ending.{Ending, ending_of, capped, IsWidthEnding, ended_by}
 use Rattle.pl_registry.specs.Ending.Ending.{Found, Limit}
 use Rattle.pl_registry.specs.Novelty.{HasAll, IsNovel, IsStale}
 use Rattle.pl_registry.specs.Registered.{Register, IsRegister, IsHeld, registered_at, registered_path}
@@ -32,7 +32,6 @@ use Rattle.pl_registry.proofs.Holding.{under_way, is_found, is_full}
 use Rattle.pl_gen.specs.Walks.{PreparedState, steps_in}
 use Rattle.pl_bfs.specs.declared.sieve.Sieve.{Sieve}
 use Rattle.pl_hooks.specs.Trying.{target_of}
-use Rattle.pl_bfs.specs.UnderWay.{ended_by}
 use Rattle.pl_bfs.specs.Width.{EndsByWidth, IsWidthBrokenOff}
 use Rattle.pl_bfs.specs.Sifting.{NotesSeen, TellsHeld, TriesNew, IsLeftBehind, TellsLeftOut, IsSiftedBetween}
 use Rattle.pl_bfs.specs.Sifting.{IsSiftedWithin, AfterSiftedTurn}

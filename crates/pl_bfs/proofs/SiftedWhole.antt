@@ -4,28 +4,27 @@ use Rattle.std.proofs.Common.{Option, Some, None, Result, Ok, IfErr, refl, sym, 
 use Rattle.std.proofs.lemmas.List.{length-map}
 use Rattle.pl_task.specs.declared.task.Task.{Task}
 use Rattle.pl_task.specs.Instance.{Instance}
-use Rattle.pl_task.specs.States.{initial}
 use Rattle.pl_task.specs.Goal.{is_goal}
-use Rattle.pl_state.specs.StateOf.{state_in, IsStateOf}
+use Rattle.pl_state.specs.StateOf.{state_in}
 use Rattle.pl_registry.specs.StateSpace.{space_of}
 use Rattle.pl_registry.specs.SearchRecord.{states_of}
 use Rattle.pl_registry.specs.declared.ended.Ended.{Ended}
 use Rattle.pl_registry.specs.declared.ended.Stats.{Stats}
 use Rattle.pl_registry.specs.declared.ended.Outcome.TheVariants as outcome
-use Rattle.pl_registry.specs.Ending.{Ending, ending_of, record_at_once, stats_of}
+use Rattle.pl_registry.specs.Ending.{Ending, ending_of, record_at_once, stats_of, ended_by}
 use Rattle.pl_registry.specs.Ending.Ending.{Found, Unsolvable, Exhausted}
 use Rattle.pl_registry.specs.Novelty.{IsNovel, IsStale}
-use Rattle.pl_registry.specs.Registered.{Register, Registered, IsRegister, registered_at, entry_of}
+use Rattle.pl_registry.specs.Registered.{Register, IsRegister, registered_at, entry_of}
 use Rattle.pl_registry.specs.Held.{states_held, HoldsBetweenTurns}
-use Rattle.pl_registry.proofs.Growing.{turns_fit}
+use Rattle.pl_registry.proofs.ByNumber.{turns_fit}
 use Rattle.pl_registry.proofs.Holding.{begun, under_way, is_closed, first_entries}
 use Rattle.pl_bfs.specs.declared.sieve.Sieve.{Sieve}
 use Rattle.pl_bfs.specs.declared.width_ended.WidthEnded.{WidthEnded}
 use Rattle.pl_bfs.specs.Breadth.{IsFresh}
-use Rattle.pl_bfs.specs.UnderWay.{ended_by}
 use Rattle.pl_bfs.specs.Width.{ending_of_width, EndsByWidth, IsWidth, IsWidthBrokenOff}
 use Rattle.pl_bfs.specs.Sifting.{NotesSeen, IsLeftBehind, TellsLeftOut, IsSiftedBetween, AfterSiftedTurn}
 use Rattle.pl_bfs.specs.Sifting.{closed_by, stats_by}
+use Rattle.pl_hooks.proofs.Firsts.{first_state, goal_is}
 use Rattle.pl_hooks.proofs.Trials.{if_err}
 use Rattle.pl_bfs.proofs.SiftedTurns.{ended_so}
 
@@ -130,28 +129,11 @@ module _ (task : Task) (k : ℕ) (first : Register) where
         → IfErr result (λ (e : E). IsWidthBrokenOff task k first first)
     wanting_from result = if_err result (IsWidthBrokenOff task k first first) wanting
 
-    first_state : (words : List ℕ) → words ≡ (registered_at first.entries 0).words
-        → state_in task words ≡ initial task
-    first_state words read = ap (state_in task)
-        (read ∙ ap (λ (es : List Registered). (registered_at es 0).words) fresh.entries_are)
-        ∙ fresh.initially_is
-
-    pub first_is_state : (words : List ℕ) → words ≡ (registered_at first.entries 0).words
-        → IsStateOf task words
-    first_is_state words read = subst (IsStateOf task)
-        (sym (read ∙ ap (λ (es : List Registered). (registered_at es 0).words) fresh.entries_are)) fresh.state
-
     held_first : (words : List ℕ) → words ≡ (registered_at first.entries 0).words
         → state_in task words ∷ [] ≡ states_held task first
-    held_first words read = ap (λ s. s ∷ []) (first_state words read)
+    held_first words read = ap (λ s. s ∷ []) (first_state fresh words read)
         ∙ sym (ap states_of
         (first_entries task (space_of task) first fresh.words fresh.entries_are fresh.initially_is))
-
-    goal_is : (other : Task) (words : List ℕ) (met : Bool) → other ≡ task
-        → words ≡ (registered_at first.entries 0).words → met ≡ is_goal other (state_in other words) →
-        met ≡ is_goal task (initial task)
-    goal_is other words met same read tested = tested ∙ ap (λ (t : Task). is_goal t (state_in t words)) same
-        ∙ ap (is_goal task) (first_state words read)
 
     -- the initial state is a goal state
     pub found_first : (other : Task) (words : List ℕ) (met : Bool) (plan : List Instance) (ended : Ended)
@@ -166,7 +148,7 @@ module _ (task : Task) (k : ℕ) (first : Register) where
         (ended_so task k first first first (Found plan) (Found []) (stats_by (length first.entries) 0 0)
         (stats_of 1 0 0) (record_at_once (space_of task))
         (inl (
-          sym (goal_is other words met same read tested) ∙ yes_it_is,
+          sym (goal_is fresh other words met same read tested) ∙ yes_it_is,
           refl,
           record { is = refl; stats_are = refl },
         ))
@@ -184,7 +166,7 @@ module _ (task : Task) (k : ℕ) (first : Register) where
         → IsSiftedBetween task k first first 0 0 sieve
     unfolding begun start
     begins other words again met sieve third same too read tested none read_again notes unset = record {
-      no_goal = sym (goal_is other words met same read tested) ∙ none;
+      no_goal = sym (goal_is fresh other words met same read tested) ∙ none;
       turns = start;
       told = subst (λ f. TellsLeftOut task k (record_at_once (space_of task)) f) (sym unset)
           (λ i d l. absurd (omega arith));

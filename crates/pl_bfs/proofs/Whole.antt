@@ -6,19 +6,20 @@ use Rattle.std.proofs.lemmas.List.{length-map}
 use denote.Param.Members.{Shared}
 use Rattle.pl_task.specs.declared.task.Task.{Task}
 use Rattle.pl_task.specs.Instance.{Instance}
-use Rattle.pl_task.specs.States.{initial}
 use Rattle.pl_task.specs.Goal.{is_goal}
-use Rattle.pl_state.specs.StateOf.{state_in, IsStateOf}
+use Rattle.pl_state.specs.StateOf.{state_in}
 use Rattle.pl_registry.specs.StateSpace.{space_of}
 use Rattle.pl_registry.specs.declared.ended.Ended.{Ended}
 use Rattle.pl_registry.specs.declared.ended.Outcome.TheVariants as outcome
+use Rattle.pl_registry.specs.Ending.{ended_by}
 use Rattle.pl_registry.specs.Ending.Ending.{Found, Unsolvable}
-use Rattle.pl_registry.specs.Registered.{Register, Registered, IsRegister, registered_at, entry_of}
+use Rattle.pl_registry.specs.Registered.{Register, IsRegister, registered_at, entry_of}
 use Rattle.pl_bfs.specs.Breadth.{MayDrop, MayKeep, IsFresh, IsBreadth, IsBrokenOff}
 use Rattle.pl_registry.specs.Held.{HoldsBetweenTurns}
-use Rattle.pl_bfs.specs.UnderWay.{IsBetween, AfterTurn, ended_by}
-use Rattle.pl_registry.proofs.Growing.{turns_fit}
+use Rattle.pl_bfs.specs.UnderWay.{IsBetween, AfterTurn}
+use Rattle.pl_registry.proofs.ByNumber.{turns_fit}
 use Rattle.pl_registry.proofs.Holding.{begun, found_at_once, cut_at_once, closed_ending, stands_between}
+use Rattle.pl_hooks.proofs.Firsts.{one_entry, goal_is, answered}
 use Rattle.pl_hooks.proofs.Trials.{if_err}
 use Rattle.pl_bfs.proofs.Within.{ended_so}
 
@@ -88,22 +89,6 @@ module _ {F : Type 0} (calls : Shared F (Bor (List ℕ) × Unit {0}) Bool) (task
         IfErr result (λ (e : E). IsBrokenOff calls task cut first first)
     wanting_from result = if_err result (IsBrokenOff calls task cut first first) wanting
 
-    one_entry : length first.entries ≡ 1
-    one_entry = ap length fresh.entries_are
-
-    words_are : (words : List ℕ) → words ≡ (registered_at first.entries 0).words → words ≡ fresh.words
-    words_are words read = read ∙ ap (λ (es : List Registered). (registered_at es 0).words) fresh.entries_are
-
-    first_state : (words : List ℕ) → words ≡ (registered_at first.entries 0).words →
-        state_in task words ≡ initial task
-    first_state words read = ap (state_in task) (words_are words read) ∙ fresh.initially_is
-
-    goal_is : (other : Task) (words : List ℕ) (met : Bool) → other ≡ task →
-        words ≡ (registered_at first.entries 0).words → met ≡ is_goal other (state_in other words) →
-        met ≡ is_goal task (initial task)
-    goal_is other words met same read tested = tested ∙ ap (λ (t : Task). is_goal t (state_in t words)) same
-        ∙ ap (is_goal task) (first_state words read)
-
     -- the initial state is a goal state
     pub found_first : (other : Task) (words : List ℕ) (met : Bool) (plan : List Instance) (ended : Ended) →
         other ≡ task → words ≡ (registered_at first.entries 0).words →
@@ -116,9 +101,9 @@ module _ {F : Type 0} (calls : Shared F (Bor (List ℕ) × Unit {0}) Bool) (task
         (record { states = 1; expanded = 0; generated = 0 })
         (ended_by (outcome.Found plan) (length first.entries) 0 0)
         (found_at_once first.limit first fresh.words fresh.entries_are fresh.initially_is
-        (sym (goal_is other words met same read tested) ∙ yes_it_is))
+        (sym (goal_is fresh other words met same read tested) ∙ yes_it_is))
         refl refl refl (ap Found none)
-        (ap (λ k. record { states = k; expanded = 0; generated = 0 }) one_entry))
+        (ap (λ k. record { states = k; expanded = 0; generated = 0 }) (one_entry fresh)))
 
     -- it is none, and it is cut
     pub cut_first : (other : Task) (words again : List ℕ) (met answer : Bool) (ended : Ended) → other ≡ task →
@@ -133,13 +118,9 @@ module _ {F : Type 0} (calls : Shared F (Bor (List ℕ) × Unit {0}) Bool) (task
         (record { states = 1; expanded = 0; generated = 0 })
         (ended_by outcome.Unsolvable (length first.entries) 0 0)
         (cut_at_once first.limit first fresh.words fresh.entries_are fresh.initially_is
-        (sym (goal_is other words met same read tested) ∙ none) (
-          again,
-          subst (IsStateOf task) (sym (words_are again read_again)) fresh.state,
-          first_state again read_again,
-          subst (λ b. FnReturnsAt calls cut again b) is_cut answers,
-        ))
-        refl refl refl refl (ap (λ k. record { states = k; expanded = 0; generated = 0 }) one_entry))
+        (sym (goal_is fresh other words met same read tested) ∙ none)
+        (answered fresh calls cut again answer true read_again answers is_cut))
+        refl refl refl refl (ap (λ k. record { states = k; expanded = 0; generated = 0 }) (one_entry fresh)))
 
     -- it is none, and it is kept
     pub begins : (other : Task) (words again : List ℕ) (met answer : Bool) → other ≡ task →
@@ -149,13 +130,8 @@ module _ {F : Type 0} (calls : Shared F (Bor (List ℕ) × Unit {0}) Bool) (task
     begins other words again met answer same read tested none read_again answers kept =
         record {
           uncut = record {
-            no_goal = sym (goal_is other words met same read tested) ∙ none;
-            kept = (
-              again,
-              subst (IsStateOf task) (sym (words_are again read_again)) fresh.state,
-              first_state again read_again,
-              subst (λ b. FnReturnsAt calls cut again b) kept answers,
-            );
+            no_goal = sym (goal_is fresh other words met same read tested) ∙ none;
+            kept = answered fresh calls cut again answer false read_again answers kept;
           };
           turns = start;
           limit = refl;

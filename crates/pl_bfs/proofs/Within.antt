@@ -15,14 +15,14 @@ use Rattle.pl_registry.specs.declared.ended.Ended.{Ended}
 use Rattle.pl_registry.specs.declared.ended.Stats.{Stats}
 use Rattle.pl_registry.specs.declared.ended.Outcome.{Outcome}
 use Rattle.pl_registry.specs.declared.ended.Outcome.TheVariants as outcome
-use Rattle.pl_registry.specs.Ending.{Ending, ending_of, by_number, capped, IsEnding}
+use Rattle.pl_registry.specs.Ending.{Ending, ending_of, by_number, capped, IsEnding, ended_by}
 use Rattle.pl_registry.specs.Ending.Ending.{Found, Limit}
 use Rattle.pl_registry.specs.Registered.{Register, IsRegister, registered_at, registered_path, with_entry}
 use Rattle.pl_gen.specs.Walks.{PreparedState, steps_in}
 use Rattle.pl_bfs.specs.Breadth.{MayDrop, MayKeep, IsBreadth, IsBrokenOff}
 use Rattle.pl_registry.specs.Held.{HoldsInTurn, HasEnded}
 use Rattle.pl_hooks.specs.Trying.{Tries, IsLeftOut, IsTakenIn}
-use Rattle.pl_bfs.specs.UnderWay.{IsBetween, IsWithin, ended_by, AfterTurn}
+use Rattle.pl_bfs.specs.UnderWay.{IsBetween, IsWithin, AfterTurn}
 use Rattle.pl_registry.proofs.Holding.{turn_begun, turn_ended, dropped_one, known_one, new_one, found_ending}
 use Rattle.pl_registry.proofs.Holding.{full_ending, stands_in}
 

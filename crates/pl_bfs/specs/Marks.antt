@@ -1,5 +1,5 @@
 -- A small task for the tests: three marks, each with a schema that sets it.
-use Rattle.std.specs.Prelude.{◌≡◌, ℕ, false, List, [], ◌∷◌}
+use Rattle.std.specs.Prelude.{ℕ, false, List, [], ◌∷◌}
 use Rattle.pl_task.specs.declared.data.Atom.{Atom}
 use Rattle.pl_task.specs.declared.data.Lifted.{Lifted}
 use Rattle.pl_task.specs.declared.data.PredicateDef.{PredicateDef}

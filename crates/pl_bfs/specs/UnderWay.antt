@@ -6,20 +6,10 @@ use Rattle.pl_task.specs.declared.task.Task.{Task}
 use Rattle.pl_task.specs.Instance.{Instance}
 use Rattle.pl_registry.specs.StateSpace.{space_of}
 use Rattle.pl_registry.specs.declared.ended.Ended.{Ended}
-use Rattle.pl_registry.specs.declared.ended.Outcome.{Outcome}
 use Rattle.pl_registry.specs.Registered.{Register}
 use Rattle.pl_registry.specs.Held.{IsUncutSearch, HoldsBetweenTurns, HoldsInTurn, turns}
 use Rattle.pl_registry.specs.Probes.{bound_of}
 use Rattle.pl_bfs.specs.Breadth.{MayDrop, MayKeep, IsBreadth, IsBrokenOff}
-
--- an outcome with counts
-abbrev pub ended_by : Outcome → ℕ → ℕ → ℕ → Ended
-ended_by outcome states expanded generated =
-    record {
-      outcome = outcome;
-      stats =
-          record { states = states; expanded = expanded; generated = generated };
-    }
 
 module _ {F : Type 0} (calls : Shared F (Bor (List ℕ) × Unit {0}) Bool) (task : Task) (cut : F)
     (old : Register) where

@@ -6,14 +6,14 @@ ghost use Rattle.pl_normal.specs.Measures.{probe_bound};
 ghost use Rattle.pl_gen.specs.Walks.{AreAcyclic};
 ghost use Rattle.pl_registry.specs.Held.{state_at};
 ghost use Rattle.pl_registry.specs.Probes.{KeepsEntries};
-ghost use Rattle.pl_registry.specs.Registered.{Register, IsRegister};
+ghost use Rattle.pl_registry.specs.Registered.{Register};
 ghost use Rattle.pl_hooks.specs.Sound.{IsSoundCut};
-ghost use Rattle.pl_bfs.specs.UnderWay.{IsBetween, AfterTurn, ended_by};
+ghost use Rattle.pl_bfs.specs.UnderWay.{IsBetween, AfterTurn};
 
 use pl_gen::Prepared;
 use pl_hooks::{Pruner, try_step};
 use pl_normal::NormalTask;
-use pl_registry::{Ended, Outcome, Registry, Stats};
+use pl_registry::{Ended, Registry};
 use pl_state::{GoalTest, Packed};
 use pl_steps::Steps;
 use std::alloc::{AllocError, Global};
@@ -54,23 +54,8 @@ pub(crate) fn expand<L: Ledger, F: Fn(&Packed) -> bool>(
         *generated = generated.saturating_add(1);
         if let Some(outcome) = try_step(alloc, normal.task(), goal, registry, pruner, n, step)? {
             let expanded = n as u64 + 1;
-            return Ok(Some(ended(outcome, registry, expanded, *generated)));
+            return Ok(Some(registry.ended(outcome, expanded, *generated)));
         }
     }
     Ok(None)
-}
-
-/// An outcome with the counts of the search.
-pub(crate) fn ended(outcome: Outcome, registry: &Registry, expanded: u64, generated: u64) -> Ended
-    ensures register { IsRegister registry.now }
-    ensures ended { result ≡ ended_by outcome (length registry.now.entries) expanded generated }
-{
-    Ended {
-        outcome,
-        stats: Stats {
-            states: registry.len() as u64,
-            expanded,
-            generated,
-        },
-    }
 }

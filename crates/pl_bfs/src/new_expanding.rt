@@ -9,7 +9,6 @@ ghost use Rattle.pl_registry.specs.Probes.{KeepsEntries};
 ghost use Rattle.pl_registry.specs.Registered.{Register};
 ghost use Rattle.pl_bfs.specs.Sifting.{IsSiftedBetween, AfterSiftedTurn};
 
-use crate::expanding::ended;
 use crate::new_trying::try_new;
 use crate::sieve::Sieve;
 use pl_gen::Prepared;
@@ -53,7 +52,7 @@ pub(crate) fn expand_new<L: Ledger>(
         *generated = generated.saturating_add(1);
         if let Some(outcome) = try_new(alloc, normal.task(), goal, registry, sieve, n, step)? {
             let expanded = n as u64 + 1;
-            return Ok(Some(ended(outcome, registry, expanded, *generated)));
+            return Ok(Some(registry.ended(outcome, expanded, *generated)));
         }
     }
     Ok(None)

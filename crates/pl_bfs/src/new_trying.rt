@@ -1,6 +1,6 @@
 //! One step of an expanded state, in a width search.
 
-ghost use Rattle.std.specs.Prelude.{◌≡◌, ◌<◌, ℕ, length, All};
+ghost use Rattle.std.specs.Prelude.{◌<◌, ℕ, length, All};
 ghost use Rattle.pl_task.specs.States.{IsStep};
 ghost use Rattle.pl_state.specs.StateOf.{IsStateOf};
 ghost use Rattle.pl_state.specs.Decided.{IsDecidedGoal};

@@ -5,7 +5,7 @@ ghost use Rattle.pl_hooks.specs.Sound.{IsSoundCut};
 ghost use Rattle.pl_gen.specs.Walks.{AreAcyclic};
 ghost use Rattle.pl_bfs.specs.Breadth.{IsFresh, IsBreadth, IsBrokenOff, IsLeastIfFound, search_bound};
 
-use crate::expanding::{ended, expand};
+use crate::expanding::expand;
 use pl_hooks::Pruner;
 use pl_normal::NormalTask;
 use pl_registry::{Ended, Outcome, Registry};
@@ -47,10 +47,10 @@ pub fn breadth<L: Ledger, F: Fn(&Packed) -> bool>(
     let goal = GoalTest::of(alloc, normal.task())?;
     if goal.holds(normal.task(), registry.state(0)) {
         let none = List::of(Vec::new(alloc));
-        return Ok(ended(Outcome::Found(none), registry, 0, 0));
+        return Ok(registry.ended(Outcome::Found(none), 0, 0));
     }
     if pruner.cut(registry.state(0)) {
-        return Ok(ended(Outcome::Unsolvable, registry, 0, 0));
+        return Ok(registry.ended(Outcome::Unsolvable, 0, 0));
     }
     let mut generated = 0;
     let mut n = 0;
@@ -69,5 +69,5 @@ pub fn breadth<L: Ledger, F: Fn(&Packed) -> bool>(
         }
         n += 1;
     }
-    Ok(ended(Outcome::Unsolvable, registry, n as u64, generated))
+    Ok(registry.ended(Outcome::Unsolvable, n as u64, generated))
 }

@@ -3,7 +3,6 @@
 ghost use Rattle.std.specs.Prelude.{◌≡◌, ◌≤◌, ◌∷◌, [], ℕ, false, IfOk};
 ghost use Rattle.pl_task.specs.States.{IsStep};
 ghost use Rattle.pl_state.specs.StateOf.{state_in, IsStateOf};
-ghost use Rattle.pl_registry.specs.Registered.{Register};
 ghost use Rattle.pl_registry.specs.Held.{states_held};
 ghost use Rattle.pl_novel.specs.Noting.{FollowsNoted};
 ghost use Rattle.pl_bfs.specs.Sifting.{NotesSeen, Sifts};

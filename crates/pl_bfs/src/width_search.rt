@@ -7,7 +7,6 @@ ghost use Rattle.pl_bfs.specs.Breadth.{IsFresh, search_bound};
 ghost use Rattle.pl_bfs.specs.Sifting.{closed_by, stats_by};
 ghost use Rattle.pl_bfs.specs.Width.{IsWidth, IsWidthBrokenOff, ending_of_width};
 
-use crate::expanding::ended;
 use crate::new_expanding::expand_new;
 use crate::sieve::Sieve;
 use crate::width_ended::{WidthEnded, WidthOutcome};
@@ -49,7 +48,7 @@ pub fn width<L: Ledger>(
     let goal = GoalTest::of(alloc, normal.task())?;
     if goal.holds(normal.task(), registry.state(0)) {
         let none = List::of(Vec::new(alloc));
-        return Ok(WidthEnded::of(ended(Outcome::Found(none), registry, 0, 0)));
+        return Ok(WidthEnded::of(registry.ended(Outcome::Found(none), 0, 0)));
     }
     let mut sieve = Sieve::of(alloc, normal.task(), k, registry.state(0))?;
     let mut generated = 0;
@@ -78,7 +77,7 @@ fn closed(left_out: bool, registry: &Registry, expanded: u64, generated: u64) ->
     ensures outcome { ending_of_width result.outcome ≡ closed_by left_out }
     ensures stats { result.stats ≡ stats_by (length registry.now.entries) expanded generated }
 {
-    let ended = ended(Outcome::Unsolvable, registry, expanded, generated);
+    let ended = registry.ended(Outcome::Unsolvable, expanded, generated);
     let outcome = if left_out {
         WidthOutcome::Exhausted
     } else {

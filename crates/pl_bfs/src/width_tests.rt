@@ -1,7 +1,7 @@
 //! Width searches of a small task, worked by hand.
 
-ghost use Rattle.std.specs.Prelude.{◌≡◌, ◌≤◌, ◌<◌, [], IfOk};
-ghost use Rattle.pl_bfs.specs.Marks.{mark, mark_set, mark_definition, make};
+ghost use Rattle.std.specs.Prelude.{◌≡◌, ◌<◌, [], IfOk};
+ghost use Rattle.pl_bfs.specs.Marks.{mark_set, mark_definition, make};
 
 use crate::tests::has_steps;
 use crate::{Stats, WidthOutcome, width};
@@ -123,7 +123,6 @@ fn marks(alloc: Global) -> Result<Task, AllocError> {
     })
 }
 
-/// Whether the outcome is the one that is wanted.
 fn is_wanted(outcome: &WidthOutcome, wanted: &Wanted) -> bool {
     match (outcome, wanted) {
         (WidthOutcome::Found(plan), Wanted::Plan(steps)) => has_steps(plan, steps),

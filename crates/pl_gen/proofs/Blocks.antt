@@ -21,20 +21,6 @@ filter_agree p q (x ∷ xs) h =
     let rest : filter p xs ≡ filter q xs = filter_agree p q xs (λ y c. h y (Contains-cons_rest x xs y c)) in
     λ i. cond (first i) (x ∷ rest i) (rest i)
 
-pub filter_none : {X : Type 0} (p : X → Bool) (xs : List X) → ((x : X) → Contains xs x → p x ≡ false) →
-    filter p xs ≡ []
-filter_none p [] h = refl
-filter_none p (x ∷ xs) h =
-    ap (λ b. cond b (x ∷ filter p xs) (filter p xs)) (h x (Contains-cons_first x xs))
-    ∙ filter_none p xs (λ y c. h y (Contains-cons_rest x xs y c))
-
-pub filter_whole : {X : Type 0} (p : X → Bool) (xs : List X) → ((x : X) → Contains xs x → p x ≡ true) →
-    filter p xs ≡ xs
-filter_whole p [] h = refl
-filter_whole p (x ∷ xs) h =
-    ap (λ b. cond b (x ∷ filter p xs) (filter p xs)) (h x (Contains-cons_first x xs))
-    ∙ ap (λ ys. x ∷ ys) (filter_whole p xs (λ y c. h y (Contains-cons_rest x xs y c)))
-
 -- ---- a filter of a map
 
 kept_image : {X Y : Type 0} (f : X → Y) (x : X) (xs : List X) (ys : List Y) (b : Bool) → ys ≡ map f xs →

@@ -1,6 +1,6 @@
 //! What is kept of a schema in a prepared state.
 
-ghost use Rattle.std.specs.Prelude.{◌≡◌, ◌≤◌, ◌<◌, ◌+◌, length, IfOk};
+ghost use Rattle.std.specs.Prelude.{◌≤◌, ◌<◌, ◌+◌, length, IfOk};
 ghost use Rattle.pl_normal.specs.NormalForm.{IsNormalForm};
 ghost use Rattle.pl_hyper.specs.JoinTree.{IsAcyclic};
 ghost use Rattle.pl_normal.specs.Edges.{edges_of, sets_of};

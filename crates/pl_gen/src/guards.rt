@@ -29,7 +29,6 @@ pub fn guards_hold<L: Ledger>(query: &Query<'_, '_>, guards: &[Guard], steps: &m
     true
 }
 
-/// Whether a guard holds.
 fn guard_holds<L: Ledger>(query: &Query<'_, '_>, guard: &Guard, steps: &mut Steps<L>) -> bool
     requires query { IsQuery query.now }
     requires guard { IsGuardOf query.now.normal.now guard.now }

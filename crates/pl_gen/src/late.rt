@@ -1,6 +1,6 @@
 //! The late filters of a schema, tested on the values of its classes.
 
-ghost use Rattle.std.specs.Prelude.{◌≡◌, ◌≤◌, ◌+◌, ◌++◌, ℕ, length, map, take, drop, slice_index, All};
+ghost use Rattle.std.specs.Prelude.{◌≡◌, ◌≤◌, ◌+◌, ◌++◌, length, drop, slice_index, All};
 ghost use Rattle.std.specs.List.{list_all};
 ghost use Rattle.pl_join.specs.Relation.{slot_value, IsSlotBelow};
 ghost use Rattle.pl_normal.specs.Query.{meets_sieve, values_of};

@@ -13,15 +13,15 @@ use pl_task::Schema;
 /// A schema of a task, and the tables of a state.
 #[derive(Clone, Copy)]
 pub struct Query<'n, 'a> {
-    /// The task.
+    /// The task in its normal form.
     pub normal: &'n NormalTask<'n>,
-    /// The words of the state.
+    /// The words of the packed state.
     pub words: &'a [u32],
     /// The tables of the state.
     pub tables: &'a StateTables,
-    /// The number of the schema.
+    /// The number of the schema in the task.
     pub number: u32,
-    /// The schema.
+    /// The schema as the task has it.
     pub schema: &'a Schema,
 }
 

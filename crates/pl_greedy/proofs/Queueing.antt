@@ -27,7 +27,7 @@ use Rattle.pl_registry.specs.Registered.{Register, Registered, registered_at, wi
 use Rattle.pl_registry.specs.Registered.{entries_of}
 use Rattle.pl_registry.specs.Held.{turns, state_at}
 use Rattle.pl_registry.proofs.Lists.{Contains-cons_first, Contains-map, Contains-map_cases}
-use Rattle.pl_registry.proofs.Growing.{turns_long, turns_read}
+use Rattle.pl_registry.proofs.ByNumber.{turns_long, turns_read}
 use Rattle.pl_greedy.specs.Queue.{key_of, number_of, IsKey, IsQueued}
 use Rattle.pl_greedy.specs.UnderWay.{IsMoreKeys}
 

@@ -8,14 +8,14 @@ use Rattle.std.proofs.lemmas.List.Sorted.{length_permutation}
 use denote.Param.Members.{Shared}
 use Rattle.pl_task.specs.declared.task.Task.{Task}
 use Rattle.pl_task.specs.Instance.{Instance}
-use Rattle.pl_task.specs.States.{initial}
 use Rattle.pl_task.specs.Goal.{is_goal}
-use Rattle.pl_state.specs.StateOf.{state_in, IsStateOf}
+use Rattle.pl_state.specs.StateOf.{state_in}
 use Rattle.pl_registry.specs.StateSpace.{space_of}
 use Rattle.pl_registry.specs.declared.ended.Ended.{Ended}
 use Rattle.pl_registry.specs.declared.ended.Outcome.TheVariants as outcome
+use Rattle.pl_registry.specs.Ending.{ended_by}
 use Rattle.pl_registry.specs.Ending.Ending.{Found, Unsolvable}
-use Rattle.pl_registry.specs.Registered.{Register, Registered, IsRegister, registered_at}
+use Rattle.pl_registry.specs.Registered.{Register, IsRegister, registered_at}
 use Rattle.std.specs.BinaryHeap.{IsHeap, PopsGreatest}
 use Rattle.std.specs.Ordering.{nat_cmp}
 use Rattle.std.specs.List.Sorted.{IsPermutation}
@@ -27,9 +27,10 @@ use Rattle.pl_registry.proofs.HoldingByRank.{begun, found_at_once, cut_at_once, 
 use Rattle.pl_hooks.specs.Asked.{MayDrop, MayKeep}
 use Rattle.pl_greedy.specs.Greedy.{IsBrokenOff}
 use Rattle.pl_greedy.specs.Queue.{number_of}
-use Rattle.pl_greedy.specs.UnderWay.{IsBetween, IsChosen, IsGreedyAfter, IsMoreKeys, AfterTurn, ended_by}
+use Rattle.pl_greedy.specs.UnderWay.{IsBetween, IsChosen, IsGreedyAfter, IsMoreKeys, AfterTurn}
 use Rattle.pl_greedy.proofs.Queueing.{many_done, all_done, top_there, top_unexpanded, top_precedes, top_taken}
 use Rattle.pl_greedy.proofs.Queueing.{queued_first}
+use Rattle.pl_hooks.proofs.Firsts.{one_entry, goal_is, answered}
 use Rattle.pl_hooks.proofs.Trials.{if_err}
 use Rattle.pl_greedy.proofs.Within.{ended_so}
 
@@ -143,22 +144,6 @@ module _ {F : Type 0} (calls : Shared F (Bor (List ℕ) × Unit {0}) Bool) (task
         IfErr result (λ (e : E). IsBrokenOff calls task cut first first)
     wanting_from result = if_err result (IsBrokenOff calls task cut first first) wanting
 
-    one_entry : length first.entries ≡ 1
-    one_entry = ap length fresh.entries_are
-
-    words_are : (words : List ℕ) → words ≡ (registered_at first.entries 0).words → words ≡ fresh.words
-    words_are words read = read ∙ ap (λ (es : List Registered). (registered_at es 0).words) fresh.entries_are
-
-    first_state : (words : List ℕ) → words ≡ (registered_at first.entries 0).words →
-        state_in task words ≡ initial task
-    first_state words read = ap (state_in task) (words_are words read) ∙ fresh.initially_is
-
-    goal_is : (other : Task) (words : List ℕ) (met : Bool) → other ≡ task →
-        words ≡ (registered_at first.entries 0).words → met ≡ is_goal other (state_in other words) →
-        met ≡ is_goal task (initial task)
-    goal_is other words met same read tested = tested ∙ ap (λ (t : Task). is_goal t (state_in t words)) same
-        ∙ ap (is_goal task) (first_state words read)
-
     -- the initial state is a goal state
     pub found_first : (other : Task) (words : List ℕ) (met : Bool) (plan : List Instance) (ended : Ended) →
         other ≡ task → words ≡ (registered_at first.entries 0).words →
@@ -171,9 +156,9 @@ module _ {F : Type 0} (calls : Shared F (Bor (List ℕ) × Unit {0}) Bool) (task
         (record { states = 1; expanded = 0; generated = 0 })
         (ended_by (outcome.Found plan) (length first.entries) 0 0)
         (found_at_once first.limit first fresh.words fresh.entries_are fresh.initially_is
-        (sym (goal_is other words met same read tested) ∙ yes_it_is))
+        (sym (goal_is fresh other words met same read tested) ∙ yes_it_is))
         refl refl refl (ap Found none)
-        (ap (λ k. record { states = k; expanded = 0; generated = 0 }) one_entry))
+        (ap (λ k. record { states = k; expanded = 0; generated = 0 }) (one_entry fresh)))
 
     -- it is none, and it is cut
     pub cut_first : (other : Task) (words again : List ℕ) (met answer : Bool) (ended : Ended) → other ≡ task →
@@ -188,13 +173,9 @@ module _ {F : Type 0} (calls : Shared F (Bor (List ℕ) × Unit {0}) Bool) (task
         (record { states = 1; expanded = 0; generated = 0 })
         (ended_by outcome.Unsolvable (length first.entries) 0 0)
         (cut_at_once first.limit first fresh.words fresh.entries_are fresh.initially_is
-        (sym (goal_is other words met same read tested) ∙ none) (
-          again,
-          subst (IsStateOf task) (sym (words_are again read_again)) fresh.state,
-          first_state again read_again,
-          subst (λ b. FnReturnsAt calls cut again b) is_cut answers,
-        ))
-        refl refl refl refl (ap (λ k. record { states = k; expanded = 0; generated = 0 }) one_entry))
+        (sym (goal_is fresh other words met same read tested) ∙ none)
+        (answered fresh calls cut again answer true read_again answers is_cut))
+        refl refl refl refl (ap (λ k. record { states = k; expanded = 0; generated = 0 }) (one_entry fresh)))
 
     -- it is none, and it is kept
     pub begins : (keys more : List ℕ) (same : Task) → same ≡ task → keys ≡ []
@@ -207,18 +188,13 @@ module _ {F : Type 0} (calls : Shared F (Bor (List ℕ) × Unit {0}) Bool) (task
         read_again answers kept =
         record {
           uncut = record {
-            no_goal = sym (goal_is other words met same read tested) ∙ none;
-            kept = (
-              again,
-              subst (IsStateOf task) (sym (words_are again read_again)) fresh.state,
-              first_state again read_again,
-              subst (λ b. FnReturnsAt calls cut again b) kept answers,
-            );
+            no_goal = sym (goal_is fresh other words met same read tested) ∙ none;
+            kept = answered fresh calls cut again answer false read_again answers kept;
           };
           turns_are = start;
           limit = refl;
           many = refl;
-          queued = queued_first task first more one_entry
+          queued = queued_first task first more (one_entry fresh)
               (subst (λ (t : Task). IsMoreKeys t first 0 [] more) is_task
               (subst (λ (ks : List ℕ). IsMoreKeys task_again first 0 ks more) emptied m))
               (subst (IsHeap nat_cmp) emptied heap);

@@ -15,7 +15,7 @@ use Rattle.pl_registry.specs.declared.ended.Ended.{Ended}
 use Rattle.pl_registry.specs.declared.ended.Stats.{Stats}
 use Rattle.pl_registry.specs.declared.ended.Outcome.{Outcome}
 use Rattle.pl_registry.specs.declared.ended.Outcome.TheVariants as outcome
-use Rattle.pl_registry.specs.Ending.{Ending, ending_of, capped, IsEnding}
+use Rattle.pl_registry.specs.Ending.{Ending, ending_of, capped, IsEnding, ended_by}
 use Rattle.pl_registry.specs.Ending.Ending.{Found, Limit}
 use Rattle.pl_registry.specs.Registered.{Register, IsRegister, registered_at, registered_path, with_entry}
 use Rattle.pl_gen.specs.Walks.{PreparedState, steps_in}
@@ -28,7 +28,7 @@ use Rattle.pl_greedy.specs.Greedy.{IsBrokenOff}
 use Rattle.pl_hooks.specs.Trying.{Tries, IsLeftOut, IsTakenIn}
 use Rattle.pl_greedy.specs.Queue.{IsQueued}
 use Rattle.pl_greedy.specs.UnderWay.{IsBetween, IsChosen, IsWithin, IsGreedyAfter, IsMoreKeys, Attempts}
-use Rattle.pl_greedy.specs.UnderWay.{ended_by, AfterTurn}
+use Rattle.pl_greedy.specs.UnderWay.{AfterTurn}
 use Rattle.pl_greedy.proofs.Queueing.{queued_more}
 
 one_more : (k : ℕ) → k + 1 ≡ suc k

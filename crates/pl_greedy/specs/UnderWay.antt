@@ -23,15 +23,6 @@ use Rattle.pl_greedy.specs.Greedy.{IsGreedy, IsBrokenOff}
 use Rattle.pl_hooks.specs.Trying.{IsLeftOut, IsTakenIn, Tries}
 use Rattle.pl_greedy.specs.Queue.{key_of, IsQueued}
 
--- an outcome with counts
-abbrev pub ended_by : Outcome → ℕ → ℕ → ℕ → Ended
-ended_by outcome states expanded generated =
-    record {
-      outcome = outcome;
-      stats =
-          record { states = states; expanded = expanded; generated = generated };
-    }
-
 -- the key of the entry is one more in the heap
 pub record IsMoreKeys (task : Task) (now : Register) (n : ℕ) (old new : List ℕ) : Type 0 where
   pub keeps : KeepsHeap nat_cmp old new

@@ -7,15 +7,15 @@ ghost use Rattle.pl_normal.specs.Measures.{probe_bound};
 ghost use Rattle.pl_gen.specs.Walks.{AreAcyclic};
 ghost use Rattle.pl_registry.specs.Held.{state_at};
 ghost use Rattle.pl_registry.specs.Probes.{KeepsEntries};
-ghost use Rattle.pl_registry.specs.Registered.{Register, IsRegister};
+ghost use Rattle.pl_registry.specs.Registered.{Register};
 ghost use Rattle.pl_hooks.specs.Sound.{IsSoundCut, IsUnmetCount};
-ghost use Rattle.pl_greedy.specs.UnderWay.{IsChosen, AfterTurn, ended_by};
+ghost use Rattle.pl_greedy.specs.UnderWay.{IsChosen, AfterTurn};
 
 use crate::attempting::attempt;
 use pl_gen::Prepared;
 use pl_hooks::{Pruner, Ranker};
 use pl_normal::NormalTask;
-use pl_registry::{Ended, Outcome, Registry, Stats};
+use pl_registry::{Ended, Registry};
 use pl_state::{GoalTest, Packed};
 use pl_steps::Steps;
 use std::alloc::{AllocError, Global};
@@ -73,23 +73,8 @@ pub(crate) fn expand<L: Ledger, F: Fn(&Packed) -> u32, G: Fn(&Packed) -> bool>(
             waiting,
         )? {
             let expanded = expanded as u64 + 1;
-            return Ok(Some(ended(outcome, registry, expanded, *generated)));
+            return Ok(Some(registry.ended(outcome, expanded, *generated)));
         }
     }
     Ok(None)
-}
-
-/// An outcome with the counts of the search.
-pub(crate) fn ended(outcome: Outcome, registry: &Registry, expanded: u64, generated: u64) -> Ended
-    ensures register { IsRegister registry.now }
-    ensures ended { result ≡ ended_by outcome (length registry.now.entries) expanded generated }
-{
-    Ended {
-        outcome,
-        stats: Stats {
-            states: registry.len() as u64,
-            expanded,
-            generated,
-        },
-    }
 }

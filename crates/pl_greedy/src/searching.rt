@@ -7,7 +7,7 @@ ghost use Rattle.pl_hooks.specs.Sound.{IsSoundCut, IsUnmetCount};
 ghost use Rattle.pl_greedy.specs.Greedy.{IsGreedy, IsBrokenOff, search_bound};
 
 use crate::attempting::admit;
-use crate::expanding::{ended, expand};
+use crate::expanding::expand;
 use crate::keys::number;
 use pl_hooks::{Pruner, Ranker};
 use pl_normal::NormalTask;
@@ -52,10 +52,10 @@ pub fn greedy<L: Ledger, F: Fn(&Packed) -> u32, G: Fn(&Packed) -> bool>(
     let goal = GoalTest::of(alloc, normal.task())?;
     if goal.holds(normal.task(), registry.state(0)) {
         let none = List::of(Vec::new(alloc));
-        return Ok(ended(Outcome::Found(none), registry, 0, 0));
+        return Ok(registry.ended(Outcome::Found(none), 0, 0));
     }
     if pruner.cut(registry.state(0)) {
-        return Ok(ended(Outcome::Unsolvable, registry, 0, 0));
+        return Ok(registry.ended(Outcome::Unsolvable, 0, 0));
     }
     let mut waiting = BinaryHeap::new(alloc);
     admit(normal.task(), registry, ranker, 0, &mut waiting)?;
@@ -81,5 +81,5 @@ pub fn greedy<L: Ledger, F: Fn(&Packed) -> u32, G: Fn(&Packed) -> bool>(
         }
         expanded += 1;
     }
-    Ok(ended(Outcome::Unsolvable, registry, expanded as u64, generated))
+    Ok(registry.ended(Outcome::Unsolvable, expanded as u64, generated))
 }

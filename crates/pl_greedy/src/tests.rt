@@ -1,15 +1,15 @@
 //! Greedy searches of a small task, whose outcomes and counts another program worked out.
 
-ghost use Rattle.std.specs.Prelude.{◌≡◌, ◌≤◌, ◌<◌};
+ghost use Rattle.std.specs.Prelude.{◌≡◌, ◌<◌};
 
 use crate::{Outcome, Stats, greedy};
 use pl_hooks::{Pruner, Ranker};
 use pl_normal::normal;
 use pl_registry::Registry;
 use pl_samples::places;
-use pl_state::{Packed, pack, unmet};
+use pl_state::{GoalTest, Packed, pack};
 use pl_steps::Steps;
-use pl_task::{Plan, Task};
+use pl_task::Plan;
 use std::alloc::{AllocError, Global};
 use std::marker::Brand;
 use std::sync::ledger::{Blank, Ledger};
@@ -108,7 +108,6 @@ fn has_steps(plan: &Plan, steps: &[(u32, &[u32])]) -> bool {
     true
 }
 
-/// Whether the outcome is the one that is wanted.
 fn is_wanted(outcome: &Outcome, wanted: &Wanted) -> bool {
     match (outcome, wanted) {
         (Outcome::Found(plan), Wanted::Plan(steps)) => has_steps(plan, steps),
@@ -116,13 +115,6 @@ fn is_wanted(outcome: &Outcome, wanted: &Wanted) -> bool {
         (Outcome::Limit, Wanted::Limit) => true,
         _ => false,
     }
-}
-
-/// The task of a case. The tests ask nothing of it, so its contract stays out of their proofs.
-fn task_of(alloc: Global, count: u32, back: bool) -> Result<Task, AllocError>
-    requires { 2 ≤ count }
-{
-    places(alloc, count, back)
 }
 
 /// Whether a search that cuts no state ends as is wanted.
@@ -141,12 +133,13 @@ fn is_met<L: Ledger>(alloc: Global, case: &Case, blank: Blank) -> Result<bool, A
         return Ok(false);
     }
     let mut steps: Steps<L> = Steps::new(blank);
-    let task = task_of(alloc, case.count, case.back)?;
+    let task = places(alloc, case.count, case.back)?;
     let normal = normal(alloc, &task)?;
     let first = pack(alloc, &task, task.init.as_slice())?;
     let mut registry = Registry::new(alloc, case.limit, first)?;
     let pruner = Pruner::new(&task, |_state: &Packed| false);
-    let ranker = Ranker::new(&task, |state: &Packed| unmet(&task, state));
+    let goal = GoalTest::of(alloc, &task)?;
+    let ranker = Ranker::new(&task, |state: &Packed| goal.unmet(&task, state));
     let ended = greedy(alloc, &normal, &mut registry, &ranker, &pruner, &mut steps)?;
     Ok(ended.stats == case.stats && is_wanted(&ended.outcome, &case.wanted))
 }

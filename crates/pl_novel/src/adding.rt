@@ -1,6 +1,6 @@
 //! The sets of a state that have an atom which a step adds.
 
-ghost use Rattle.std.specs.Prelude.{◌≡◌, [], length, map, All, OnOk};
+ghost use Rattle.std.specs.Prelude.{[], length, map, All, OnOk};
 ghost use Rattle.pl_task.specs.declared.data.Lifted.{Lifted as LiftedAtom};
 ghost use Rattle.pl_task.specs.States.{IsStep};
 ghost use Rattle.pl_state.specs.StateOf.{state_in, IsStateOf};

@@ -61,7 +61,7 @@ impl Key {
         Ok(())
     }
 
-    /// A copy of the key.
+    /// A copy. The only error is want of memory.
     pub(crate) fn copy(&self, alloc: Global) -> Result<Key, AllocError>
         ensures { IfOk result (λ key. key ≡ self.now) }
     {

@@ -1,6 +1,6 @@
 //! The numbers of the atoms of a state.
 
-ghost use Rattle.std.specs.Prelude.{◌≡◌, ◌+◌, ◌*◌, ◌≤◌, ◌∷◌, [], length, map, take, drop, IfOk, OnOk};
+ghost use Rattle.std.specs.Prelude.{◌≡◌, ◌+◌, ◌*◌, ◌≤◌, ◌∷◌, length, map, take, drop, IfOk, OnOk};
 ghost use Rattle.pl_rows.specs.Rows.{rows_of};
 ghost use Rattle.pl_state.specs.StateOf.{state_in, IsStateOf};
 ghost use Rattle.pl_novel.specs.Keys.{IsPlaced, AreNumbered, AreStateNumbers, Extends};

@@ -151,11 +151,6 @@ const STEPS: &[StepCase] = &[
     },
 ];
 
-/// Four places. The tests ask nothing of the task, so its contract stays out of their proofs.
-fn four_places(alloc: Global) -> Result<Task, AllocError> {
-    places(alloc, 4, false)
-}
-
 /// The state with the atoms that are of the task.
 fn packed(alloc: Global, task: &Task, cases: &[AtomCase]) -> Result<Packed, AllocError>
     ensures { IfOk result (IsStateOf task.now) }
@@ -166,7 +161,7 @@ fn packed(alloc: Global, task: &Task, cases: &[AtomCase]) -> Result<Packed, Allo
 #[test]
 fn states_are_noted(rt: HostRuntime) -> Result<(), Fail> {
     let alloc = rt.alloc();
-    let task = four_places(alloc)?;
+    let task = places(alloc, 4, false)?;
     let mut one = Novelty::new(alloc, 1);
     let mut two = Novelty::new(alloc, 2);
     for (i, case) in NOTES.iter().enumerate() {
@@ -201,7 +196,7 @@ fn is_new_by(
 #[test]
 fn steps_are_noted(rt: HostRuntime) -> Result<(), Fail> {
     let alloc = rt.alloc();
-    let task = four_places(alloc)?;
+    let task = places(alloc, 4, false)?;
     let mut one = Novelty::new(alloc, 1);
     let mut two = Novelty::new(alloc, 2);
     for (i, case) in STEPS.iter().enumerate() {

@@ -19,7 +19,7 @@ pub enum Fault {
     NotAStep,
     /// A file is faulty.
     Input {
-        /// The file.
+        /// Which of the files it is.
         file: FileRole,
         /// The line of the place, from 1.
         line: u32,

@@ -20,8 +20,8 @@ use Rattle.pl_registry.specs.Registered.{Register, Registered, IsRegister, IsHel
 use Rattle.pl_registry.specs.Registered.{registered_at, registered_path, registered_path_within, with_entry}
 use Rattle.pl_registry.specs.Registered.{entry_of, entries_of}
 use Rattle.pl_registry.proofs.Lists.{Contains-map, Contains-map_cases}
-use Rattle.pl_registry.proofs.Growing.{at_once, next_turn, turn_over, closed_at, turn_is_there}
-use Rattle.pl_registry.proofs.Growing.{one_more_dropped, one_more_known, one_more_new, found_at, full_at}
+use Rattle.pl_registry.proofs.ByNumber.{at_once, next_turn, turn_over, closed_at, turn_is_there}
+use Rattle.pl_registry.proofs.ByNumber.{one_more_dropped, one_more_known, one_more_new, found_at, full_at}
 use Rattle.pl_registry.specs.Held.{with_turn, with_pair, with_new, pair_in, IsInTurn, state_at, states_held}
 use Rattle.pl_registry.specs.Held.{IsUncutSearch, HoldsRecord, HoldsBetweenTurns, HoldsInTurn, HasEnded}
 use Rattle.pl_registry.specs.Held.{HoldsStanding}

@@ -15,10 +15,11 @@ pub mod Endings
 pub mod OneEnding
 mod Registering
 pub mod SearchLaws
--- how a search by number grows, for its loop
+-- how a search grows, for its loop: by any rank, and by number
 pub mod Growing
-pub mod Numbered
 pub mod ByRank
+pub mod ByNumber
+pub mod Numbered
 pub mod Holding
 pub mod HoldingByRank
 mod Choosing

@@ -14,7 +14,7 @@ use Rattle.pl_registry.specs.Ending.Ending.{Found, Unsolvable, Exhausted, Limit}
 use Rattle.pl_registry.specs.Held.{turns}
 use Rattle.pl_registry.proofs.Turns.{within_or_past}
 use Rattle.pl_registry.proofs.Entries.{made_in-rises, expanded_registered}
-use Rattle.pl_registry.proofs.Growing.{turns_long, turns_read}
+use Rattle.pl_registry.proofs.ByNumber.{turns_long, turns_read}
 
 module _ {space : StateSpace} {D K : List State → State → Type 0} {r : SearchRecord}
     (s : IsRecordUpTo space D K by_number r) where

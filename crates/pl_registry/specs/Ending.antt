@@ -5,6 +5,7 @@ use Rattle.pl_task.specs.Instance.{Instance}
 use Rattle.pl_task.specs.declared.task.Task.{Task}
 use Rattle.pl_task.specs.States.{State}
 use Rattle.pl_task.specs.Goal.{unmet}
+use Rattle.pl_registry.specs.declared.ended.Ended.{Ended}
 use Rattle.pl_registry.specs.declared.ended.Outcome.{Outcome}
 use Rattle.pl_registry.specs.declared.ended.Outcome.TheVariants as outcome
 use Rattle.pl_registry.specs.declared.ended.Stats.{Stats}
@@ -39,6 +40,15 @@ capped n = min n (2 ^ 64 - 1)
 abbrev pub stats_of : ℕ → ℕ → ℕ → Stats
 stats_of states expanded generated =
     record { states = states; expanded = expanded; generated = capped generated }
+
+-- an outcome with counts
+abbrev pub ended_by : Outcome → ℕ → ℕ → ℕ → Ended
+ended_by outcome states expanded generated =
+    record {
+      outcome = outcome;
+      stats =
+          record { states = states; expanded = expanded; generated = generated };
+    }
 
 -- the record of a search that ends before it expands a state
 abbrev pub record_at_once : StateSpace → SearchRecord

@@ -8,8 +8,9 @@
 //!
 //! The laws (`laws`): endings are true of the task, none is shorter than the plan of breadth-first search,
 //! which is the least of all plans, a search has at most one ending, and each search has one. For the proof
-//! of a search that expands by number there is a lemma for each of its steps and endings: over records in
-//! `proofs/Growing.antt`, with a registry beside them in `proofs/Holding.antt`.
+//! of a search there is a lemma for each of its steps and endings: over records in `proofs/ByRank.antt`, with
+//! a registry beside them in `proofs/HoldingByRank.antt`; where it expands by number, in
+//! `proofs/ByNumber.antt` and `proofs/Holding.antt`.
 #![tactic(auto)]
 
 mod added;

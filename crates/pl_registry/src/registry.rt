@@ -1,10 +1,12 @@
 //! The registered states of a search.
 
 ghost use Rattle.std.specs.Prelude.{◌≡◌, ◌<◌, ◌≤◌, ◌-◌, ◌^◌, ◌∷◌, ◌++◌, [], length, reverse, IfOk};
-ghost use Rattle.pl_registry.specs.Registered.{Register, Registered, IsRegister, Adds, Finds, initially};
+ghost use Rattle.pl_registry.specs.Registered.{Register, IsRegister, Adds, Finds, initially};
 ghost use Rattle.pl_registry.specs.Registered.{registered_at, registered_path};
+ghost use Rattle.pl_registry.specs.Ending.{ended_by};
 
 use crate::added::{Added, Refused};
+use crate::ended::{Ended, Outcome, Stats};
 use crate::links::Links;
 use indexmap::IndexSet;
 use pl_state::Packed;
@@ -99,6 +101,21 @@ impl Registry {
         ensures register { IsRegister self.now }
     {
         self.states.len() as u32
+    }
+
+    /// An outcome with the counts of a search whose states these are.
+    pub fn ended(&self, outcome: Outcome, expanded: u64, generated: u64) -> Ended
+        ensures register { IsRegister self.now }
+        ensures ended { result ≡ ended_by outcome (length self.now.entries) expanded generated }
+    {
+        Ended {
+            outcome,
+            stats: Stats {
+                states: self.len() as u64,
+                expanded,
+                generated,
+            },
+        }
     }
 
     /// The state with a number.

@@ -1,5 +1,7 @@
 -- A small task for tests: places to be at, a static link between two of them, and whether all is done.
-use Rattle.std.specs.Prelude.{◌≡◌, ℕ, Bool, false, true, List, [], ◌∷◌, length, All}
+use Rattle.std.specs.Prelude.{◌≡◌, ℕ, Bool, false, true, List, [], ◌∷◌, length, map, All}
+use Rattle.std.specs.Borrow.{Bor}
+use Rattle.pl_task.specs.declared.data.Atom.{Atom}
 use Rattle.pl_task.specs.declared.data.GoalLiteral.{GoalLiteral}
 use Rattle.pl_task.specs.declared.data.Lifted.{Lifted}
 use Rattle.pl_task.specs.declared.data.ObjectDef.{ObjectDef}
@@ -11,6 +13,7 @@ use Rattle.pl_task.specs.declared.data.Term.TheVariants as term
 use Rattle.pl_task.specs.declared.data.TypeDef.{TypeDef}
 use Rattle.pl_task.specs.declared.task.Task.{Task}
 use Rattle.pl_task.specs.Atoms.{atom_of}
+use Rattle.pl_task.specs.WellFormed.{IsAtomOf}
 
 -- the type that every object has
 abbrev pub object : TypeDef
@@ -92,3 +95,12 @@ pub record IsTaskOfPlaces (count : ℕ) (back : Bool) (task : Task) : Type 0 whe
   pub schemas : task.schemas ≡ schemas_of_places
   pub init : task.init ≡ atom_of 1 (0 ∷ 1 ∷ []) ∷ []
   pub goal : task.goal ≡ hop_goal back
+
+-- the atom of a case: a predicate's number and the objects' numbers
+abbrev pub case_atom : ℕ × Bor (List ℕ) → Atom
+case_atom case = atom_of case.0 case.1.now
+
+-- where each case is an atom of the task, these are the atoms of the cases
+abbrev pub AreAtomsOf : Task → List (ℕ × Bor (List ℕ)) → List Atom → Type 0
+AreAtomsOf task cases made =
+    All (λ case. IsAtomOf task.objects task.predicates (case_atom case)) cases → made ≡ map case_atom cases

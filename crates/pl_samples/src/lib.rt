@@ -1,7 +1,7 @@
 //! Test tasks: small tasks and their parts, made for the tests of other crates.
 //!
 //! Everything here is used by tests only. `specs/Places.antt` has the task of places in full, and
-//! `proofs/Wellformed.antt` what a test needs that makes a task of its own out of these parts.
+//! `proofs/WellFormed.antt` what a test needs that makes a task of its own out of these parts.
 #![tactic(auto)]
 
 mod parts;

@@ -3,7 +3,7 @@
 ghost use Rattle.std.specs.Prelude.{◌≡◌, ◌↔◌, [], length, All, IfOk, IsTrue};
 ghost use Rattle.pl_task.specs.Atoms.{atom_of};
 ghost use Rattle.pl_task.specs.WellFormed.{IsAtomOf};
-ghost use Rattle.pl_samples.specs.Places.{literal_of, plain};
+ghost use Rattle.pl_samples.specs.Places.{literal_of, plain, AreAtomsOf};
 
 use pl_task::{Atom, GoalLiteral, List, ObjectDef, PredicateDef, Task};
 use std::alloc::{AllocError, Global};
@@ -80,7 +80,8 @@ pub fn is_atom(task: &Task, predicate: u32, objects: &[u32]) -> bool
 
 /// Those of the cases that are atoms of the task.
 pub fn atoms(alloc: Global, task: &Task, cases: &[AtomCase]) -> Result<Vec<Atom>, AllocError>
-    ensures { IfOk result (λ v. All (IsAtomOf task.now.objects task.now.predicates) v.items) }
+    ensures within { IfOk result (λ v. All (IsAtomOf task.now.objects task.now.predicates) v.items) }
+    ensures all { IfOk result (λ v. AreAtomsOf task.now cases.now v.items) }
 {
     let mut made = Vec::new(alloc);
     for (predicate, objects) in cases {

@@ -9,15 +9,14 @@ use Rattle.pl_check.specs.declared.role.FileRole.{FileRole}
 use Rattle.pl_task.specs.declared.task.Task.{Task}
 use Rattle.pl_make.specs.declared.kind.Kind.{Kind}
 use Rattle.pl_make.specs.Texts.{domain_text, problem_text}
-use Rattle.pl_top.specs.Answer.{Outcome, IsInputFault, IsMade, IsMadeOf, IsMadeOutcome}
+use Rattle.pl_top.specs.Answer.{Outcome, IsInputFault, IsMadeOf, IsMadeOutcome}
 use Rattle.pl_top.specs.declared.refusal.Refusal.{Refusal}
 use Rattle.pl_top.specs.declared.refusal.Refusal.TheVariants as refused
-use Rattle.pl_top.specs.Planning.{AreReachableWithin, IsDecisive, IsMadeSettled, IsOfTask, SaysOfMade}
+use Rattle.pl_top.specs.Planning.{IsDecisive, IsMadeSettled, IsOfTask, SaysOfMade}
 use Rattle.pl_top.specs.Refusal.{HasBegun, IsRefused, IsUnanswered, outcome_of, status_of as refusal_status}
-use Rattle.pl_top.specs.Request.{Request, Validate, Successors, FindPlan, Make, names_of, no_plan_options}
+use Rattle.pl_top.specs.Request.{Request, Validate, Successors, FindPlan, Make, names_of}
 use Rattle.pl_top.specs.Run.{Ending, RunEnds, IsCause, IsLinePut, IsWritten, EndsWith, status_of, Answered}
 use Rattle.pl_top.specs.Run.{StoppedReading, StoppedWriting, OutOfMemory}
-use Rattle.pl_top.specs.Searching.{limit_of}
 use Rattle.pl_top.specs.Writing.{Finishes}
 use Rattle.pl_top.proofs.FinishLemmas.{finished_run}
 use Rattle.pl_top.proofs.MadeLemmas.{made_truth, made_settled}

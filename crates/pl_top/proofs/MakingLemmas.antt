@@ -1,26 +1,25 @@
 -- From the search of a made task to its summary.
-use Rattle.std.proofs.Common.{◌≡◌, ◌≢◌, ◌+◌, ◌^◌, ◌<◌, ◌≤◌, ℕ, zero, suc, List, [], ◌∷◌, ◌++◌, map, length}
-use Rattle.std.proofs.Common.{length-append, get_or, false, inl, inr, refl, sym, ◌∙◌, ap, subst, arith, All}
+use Rattle.std.proofs.Common.{◌≡◌, ◌≢◌, ◌+◌, ◌<◌, ◌≤◌, ℕ, zero, suc, List, [], ◌∷◌, ◌++◌, map, length}
+use Rattle.std.proofs.Common.{length-append, false, inl, inr, refl, sym, ◌∙◌, ap, subst, arith, All}
 use Rattle.std.proofs.Common.{codes, decimal}
 use Rattle.std.proofs.lemmas.List.Elements.{All-map, All-weaker}
-use Rattle.std.proofs.lemmas.Option.{slice_get_within, get_or_from_slice_get}
 use Rattle.pl_io.specs.Outside.{SinkSeen}
 use Rattle.pl_task.specs.declared.data.Atom.{Atom}
 use Rattle.pl_task.specs.declared.data.ObjectDef.{ObjectDef}
-use Rattle.pl_task.specs.declared.data.Schema.{Schema}
 use Rattle.pl_task.specs.declared.plan.PlanLine.{PlanLine}
 use Rattle.pl_task.specs.declared.plan.PlanLine.TheVariants as line
 use Rattle.pl_task.specs.declared.task.Task.{Task}
 use Rattle.pl_task.specs.Instance.{Instance}
 use Rattle.pl_task.specs.States.{IsStep}
+use Rattle.pl_task.proofs.StepLemmas.{few_objects}
 use Rattle.pl_hooks.specs.Hopeless.{is_hopeless}
 use Rattle.pl_registry.specs.declared.ended.Stats.{Stats}
 use Rattle.pl_registry.specs.declared.search.Search.TheVariants as search
 use Rattle.pl_registry.specs.Cut.{IsCut, IsKept}
 use Rattle.pl_registry.specs.declared.ended.Outcome.{Outcome as Answered}
 use Rattle.pl_registry.specs.Ending.{Ending, IsEnding, by_number, ending_of}
-use Rattle.pl_registry.specs.Ending.Ending.{Found, Unsolvable, Exhausted, Limit}
-use Rattle.pl_registry.specs.SearchRecord.{Entry, SearchRecord, entry_at, path_within, path_of}
+use Rattle.pl_registry.specs.Ending.Ending.{Found, Unsolvable, Limit}
+use Rattle.pl_registry.specs.SearchRecord.{Entry, entry_at, path_within, path_of}
 use Rattle.pl_registry.specs.StateSpace.{space_of}
 use Rattle.pl_registry.proofs.Entries.{expanded_registered}
 use Rattle.pl_registry.proofs.Plans.{next_tried}
@@ -174,16 +173,7 @@ lines_within task steps lines slice within are same =
     (All-weaker (IsStep task) (λ (step : Instance). IsLineOf task (line.Step step))
     (λ step is other e. subst (IsStep task) (cc e) is) steps within))
 
--- steps of a task have at most 64 objects
-pub few_objects : (task : Task) (step : Instance) → IsStep task step → length step.args ≤ 64
-few_objects task step is =
-    let within : step.schema < length task.schemas = slice_get_within task.schemas step.schema is.schema
-    is.found in
-    let of = task.schemas_ok.each step.schema is.schema within in
-    let same : get_or task.schemas step.schema is.schema ≡ is.schema =
-    get_or_from_slice_get task.schemas step.schema is.schema is.schema is.found in
-    omega (arith, is.many, of.few_parameters, ap (λ (s : Schema). length s.parameters) same)
-
+-- steps of a task have at most 64 objects each
 pub few_each : (task : Task) (steps : List Instance) → All (IsStep task) steps
     → All (λ (step : Instance). length step.args ≤ 64) steps
 few_each task steps = All-weaker (IsStep task) (λ (step : Instance). length step.args ≤ 64)

@@ -13,7 +13,7 @@ use Rattle.pl_top.specs.declared.refusal.Refusal.TheVariants as refused
 use Rattle.pl_check.specs.declared.role.FileRole.{FileRole}
 use Rattle.pl_check.specs.declared.role.FileRole.TheVariants.{Domain, Problem, Plan}
 use Rattle.pl_top.specs.Answer.{Outcome, Whole, Overlong, reading_of, GoesOn, IsRead, IsAnswer, IsJudged}
-use Rattle.pl_top.specs.Answer.{IsListed, IsWorked, IsFaultOfAny, IsNoStep, IsPlanRead, IsPlanned, IsMade}
+use Rattle.pl_top.specs.Answer.{IsListed, IsWorked, IsFaultOfAny, IsNoStep, IsPlanRead, IsPlanned}
 use Rattle.pl_top.specs.Answer.{IsMadeOf, verdict_outcome}
 use Rattle.pl_top.specs.Refusal.{outcome_of, HasBegun, IsForced, IsOfLast, IsRefused}
 use Rattle.pl_make.specs.declared.kind.Kind.{Kind}

@@ -1,5 +1,5 @@
 -- What a run of `plan` says of the task of its files.
-use Rattle.std.proofs.Common.{◌≡◌, ◌≢◌, ◌⊎◌, ℕ, List, inl, inr, sym, ◌∙◌, ap, subst}
+use Rattle.std.proofs.Common.{◌≡◌, ◌⊎◌, ℕ, List, inl, inr, ◌∙◌, ap, subst}
 use Rattle.std.specs.Io.KnownBytes.{Appends}
 use Rattle.pl_io.specs.Outside.{ShelfSeen, SinkSeen}
 use Rattle.pl_check.specs.Laws.{TaskIsOne}

@@ -1,7 +1,6 @@
 -- From a search over a registry to how a search ends that cuts hopeless states.
-use Rattle.std.proofs.Common.{◌≡◌, ℕ, Bool, true, List, inl, inr, refl, sym, subst, Result, Ok, Err, IfOk}
+use Rattle.std.proofs.Common.{◌≡◌, ℕ, Bool, List, inl, inr, sym, subst, Result, Ok, Err, IfOk}
 use Rattle.std.specs.Borrow.{Bor}
-use Rattle.std.specs.Fn.{FnReturnsAt}
 use Rattle.std.proofs.lemmas.List.Elements.{All-weaker}
 use denote.Param.Members.{Shared}
 use Rattle.pl_task.specs.declared.task.Task.{Task}

@@ -1,7 +1,6 @@
 -- How many probes the parts of a run take.
-use Rattle.std.proofs.Common.{◌≡◌, ◌∙◌, ℕ, ◌≤◌, ◌+◌, ◌*◌, Bool, true, List, length, Option, Result, Ok, Err}
+use Rattle.std.proofs.Common.{◌≡◌, ◌∙◌, ℕ, ◌≤◌, ◌+◌, ◌*◌, Bool, List, length, Option, Result, Ok, Err}
 use Rattle.std.proofs.Common.{IfOk, Bor, inl, inr, ap, sym, subst, arith}
-use Rattle.std.specs.Fn.{FnReturnsAt}
 use Rattle.std.specs.Option.{option_map}
 use denote.Param.Members.{Shared}
 use Rattle.pl_io.specs.Outside.{ShelfSeen}

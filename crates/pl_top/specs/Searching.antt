@@ -2,7 +2,7 @@
 use Rattle.std.specs.Prelude.{◌≡◌, ℕ, ◌-◌, ◌^◌, ◌<◌, ◌≤◌, Bool, true, false, List, [], ◌++◌, All, ⊤, Option}
 use Rattle.std.specs.Prelude.{Some, None, codes, decimal}
 use Rattle.pl_task.specs.declared.task.Task.{Task}
-use Rattle.pl_task.specs.States.{State, IsStep}
+use Rattle.pl_task.specs.States.{IsStep}
 use Rattle.pl_hooks.specs.Hopeless.{is_hopeless}
 use Rattle.pl_registry.specs.declared.ended.Stats.{Stats}
 use Rattle.pl_registry.specs.declared.search.Search.{Search}

@@ -1,6 +1,6 @@
 //! Runs over shelves and streams that fail at calls that are told, or are short of a file.
 
-ghost use Rattle.std.specs.Prelude.{◌≡◌, ◌<◌, ◌≤◌};
+ghost use Rattle.std.specs.Prelude.{◌≡◌, ◌<◌};
 
 use crate::run;
 use crate::tests::{

@@ -20,7 +20,7 @@ pub enum Refusal {
     TooLong(FileRole),
     /// A file has this fault first.
     Input {
-        /// The file.
+        /// Which of the files it is.
         file: FileRole,
         /// The line of the place, from 1.
         line: u32,

@@ -16,27 +16,27 @@ use pl_make::Kind;
 pub enum Request<'w> {
     /// Judge a plan.
     Validate {
-        /// The domain file.
+        /// The name of the domain file.
         domain: &'w str,
-        /// The problem file.
+        /// The name of the problem file.
         problem: &'w str,
-        /// The plan file.
+        /// The name of the plan file.
         plan: &'w str,
     },
     /// List applicable steps.
     Successors {
-        /// The domain file.
+        /// The name of the domain file.
         domain: &'w str,
-        /// The problem file.
+        /// The name of the problem file.
         problem: &'w str,
         /// Of which state, from which step on, and how many.
         options: Options<'w>,
     },
     /// Find a plan.
     Plan {
-        /// The domain file.
+        /// The name of the domain file.
         domain: &'w str,
-        /// The problem file.
+        /// The name of the problem file.
         problem: &'w str,
         /// By which search, with how many states at most, and what is printed.
         options: PlanOptions,

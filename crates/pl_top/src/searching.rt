@@ -1,6 +1,6 @@
 //! The searches for a plan.
 
-ghost use Rattle.std.specs.Prelude.{◌≡◌, ◌<◌, ◌-◌, ◌≤◌, ◌^◌, IfOk};
+ghost use Rattle.std.specs.Prelude.{◌<◌, ◌-◌, ◌≤◌, ◌^◌, IfOk};
 ghost use Rattle.pl_bfs.specs.Width.{ending_of_width};
 ghost use Rattle.pl_registry.specs.Ending.{ending_of};
 ghost use Rattle.pl_registry.specs.declared.search.Search.{Search};

@@ -1,6 +1,6 @@
 //! The command `successors`: lists the steps that are applicable in a state.
 
-ghost use Rattle.std.specs.Prelude.{◌≡◌, ◌≤◌, ◌+◌, [], ◌∷◌, IfErr, IfOk, IfSome, length};
+ghost use Rattle.std.specs.Prelude.{◌≡◌, ◌≤◌, ◌+◌, IfErr, IfOk, IfSome, length};
 ghost use Rattle.pl_io.specs.Outside.{BegunThen, most_file_bytes};
 ghost use Rattle.pl_state.specs.StateOf.{state_in, IsStateOf};
 ghost use Rattle.pl_normal.specs.Measures.{probe_bound};
