@@ -20,9 +20,9 @@ use std::alloc::{AllocError, Global};
 /// ear of any other. This is the reduction of Graham (1979) and of Yu and Ozsoyoglu (1979), with each choice
 /// fixed.
 ///
-/// A parent is sought among 64 edges at a time, and where an ear leaves only its own classes are looked at
-/// again. So with a few thousand edges the time is about that of going over their classes. The edges before
-/// an ear are looked at again only where a class is no longer shared, and that comes once a class.
+/// The time is quadratic in the number of edges, by a small part: a parent is sought among 64 edges at a
+/// time, and where an ear leaves only its own classes are asked about again. The edges before an ear are
+/// looked at again only where a class is no longer shared, and that comes once a class.
 pub fn ears(alloc: Global, edges: &[u64]) -> Result<EarPlan, AllocError>
     requires { length edges.now < 2 ^ 32 }
     ensures edges { IfOk result (λ plan. plan.edges ≡ edges.now) }
