@@ -1,7 +1,7 @@
 -- Gathering the classes of slots in an order.
 use Rattle.std.proofs.Common.{◌≡◌, ◌≢◌, ◌↔◌, ◌+◌, ◌<◌, ℕ, Bool, true, false, cond, List, [], ◌∷◌, ◌++◌}
 use Rattle.std.proofs.Common.{length}
-use Rattle.std.proofs.Common.{map, filter, get_or, slice_get, Some, All, Contains, refl, sym, ap, ◌∙◌, subst}
+use Rattle.std.proofs.Common.{map, get_or, slice_get, Some, All, Contains, refl, sym, ap, ◌∙◌, subst}
 use Rattle.std.proofs.Common.{inl, inr, arith}
 use Rattle.std.specs.List.{AllPairs, list_any}
 use Rattle.std.proofs.lemmas.Bool.{cases_Bool, cases_lt, false≢true}
@@ -18,7 +18,7 @@ use Rattle.pl_join.specs.declared.slot.Slot.{Slot}
 use Rattle.pl_join.specs.declared.slot.Slot.TheVariants.{Fixed, Class}
 use Rattle.pl_join.specs.Relation.{Assignment, AreDistinct, AreClassesOf, IsSlotOver, IsSlotBelow, slot_value}
 use Rattle.pl_join.specs.Relation.{slot_is, classes_in}
-use Rattle.pl_join.specs.Source.{ArePlacesOf, AreNumbersBelow, IsGathered, picked}
+use Rattle.pl_join.specs.Source.{AreNumbersBelow, IsGathered, picked}
 use Rattle.pl_join.proofs.Members.{Contains-filter, Contains-from_filter}
 
 -- ---- the classes that stand in slots
@@ -92,13 +92,29 @@ one_more slots done c = filter-append (λ k. list_any (slot_is k) slots) done (c
     last true h = rw h refl
     last false h = rw h refl
 
+-- a class more that stands in the slots
+pub one_stands : (slots : List Slot) (done : List ℕ) (c : ℕ) → Contains slots (Class c)
+    → classes_in (done ++ c ∷ []) slots ≡ classes_in done slots ++ c ∷ []
+one_stands slots done c stands =
+    one_more slots done c ∙ ap (λ b. classes_in done slots ++ cond b (c ∷ []) []) (slot_any c slots stands)
+
+-- a class more that doesn't
+pub one_lacks : (slots : List Slot) (done : List ℕ) (c : ℕ) → (Contains slots (Class c) → ⊥)
+    → classes_in (done ++ c ∷ []) slots ≡ classes_in done slots
+one_lacks slots done c none = one_more slots done c
+    ∙ ap (λ b. classes_in done slots ++ cond b (c ∷ []) []) lacks ∙ append-nil (classes_in done slots)
+  where
+    lacks : list_any (slot_is c) slots ≡ false
+    lacks = elim (cases_Bool (list_any (slot_is c) slots)) [
+      | inl y ↦ absurd (none (any_slot c slots y))
+      | inr n ↦ n
+    ]
+
 pub gathered_more : (slots : List Slot) (done classes columns : List ℕ) (c place : ℕ)
     → IsGathered slots done classes columns → slice_get slots place ≡ Some (Class c)
     → IsGathered slots (done ++ c ∷ []) (classes ++ c ∷ []) (columns ++ place ∷ [])
 gathered_more slots done classes columns c place g at = record {
-  classes_are = ap (λ cs. cs ++ c ∷ []) g.classes_are
-      ∙ sym (one_more slots done c ∙ ap (λ b. classes_in done slots ++ cond b (c ∷ []) [])
-      (slot_any c slots found));
+  classes_are = ap (λ cs. cs ++ c ∷ []) g.classes_are ∙ sym (one_stands slots done c found);
   places = record {
     len = omega (arith, length_push columns place, length_push classes c, g.places.len);
     within = All-push (λ column. column < length slots) columns place g.places.within within;
@@ -127,16 +143,9 @@ pub gathered_skip : (slots : List Slot) (done classes columns : List ℕ) (c : �
     → IsGathered slots done classes columns → (Contains slots (Class c) → ⊥)
     → IsGathered slots (done ++ c ∷ []) classes columns
 gathered_skip slots done classes columns c g none = record {
-  classes_are = g.classes_are ∙ sym (one_more slots done c
-      ∙ ap (λ b. classes_in done slots ++ cond b (c ∷ []) []) lacks ∙ append-nil (classes_in done slots));
+  classes_are = g.classes_are ∙ sym (one_lacks slots done c none);
   places = g.places;
 }
-  where
-    lacks : list_any (slot_is c) slots ≡ false
-    lacks = elim (cases_Bool (list_any (slot_is c) slots)) [
-      | inl y ↦ absurd (none (any_slot c slots y))
-      | inr n ↦ n
-    ]
 
 -- ---- the order by rising number
 

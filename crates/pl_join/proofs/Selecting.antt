@@ -104,7 +104,7 @@ tests_are tests row sources columns i l m so_far =
     (bytes_eq-Decides row (looked_at sources (picked columns row)))
 
 -- tests that say the same of each row keep the same rows
-pub filter_agree : (p q : List ℕ → Bool) (rows : List (List ℕ)) → All (λ row. p row ≡ q row) rows
+pub filter_agree : {X : Type 0} (p q : X → Bool) (rows : List X) → All (λ row. p row ≡ q row) rows
     → filter p rows ≡ filter q rows
 filter_agree p q [] same = refl
 filter_agree p q (row ∷ rows) same =

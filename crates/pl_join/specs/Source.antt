@@ -1,5 +1,5 @@
 -- Where the values of slots and classes stand in a row, and which rows are picked and kept by them.
-use Rattle.std.specs.Prelude.{◌≡◌, ◌↔◌, ◌<◌, ◌==◌, ◌++◌, ℕ, Bool, not, List, length, drop, map, filter, All}
+use Rattle.std.specs.Prelude.{◌≡◌, ◌<◌, ◌==◌, ◌++◌, ℕ, Bool, not, List, length, drop, map, filter, All}
 use Rattle.std.specs.Prelude.{Contains, slice_index}
 use Rattle.std.specs.List.{AllPairs, list_any, list_all}
 use Rattle.std.specs.Str.{bytes_eq}
@@ -50,6 +50,19 @@ is_kept keep rows sources row = keeps_where keep (has_row rows (looked_at source
 -- whether the values of the columns, put where the sources say, are the row itself
 abbrev pub fits_slots : List Source → List ℕ → List ℕ → Bool
 fits_slots sources columns row = bytes_eq row (looked_at sources (picked columns row))
+
+-- the number in a slot: its value or its class
+abbrev pub number_in : Slot → ℕ
+number_in = slot_value (λ c. c)
+
+-- the slots are just classes, and these rise
+pub record AreRisingClasses (slots : List Slot) : Type 0 where
+  pub just : slots ≡ map Class (map number_in slots)
+  pub rising : AllPairs (λ a b. a < b) (map number_in slots)
+
+-- the slots are just the classes of the order that stand in them, in this order
+abbrev pub StandInOrder : List ℕ → List Slot → Type 0
+StandInOrder order slots = slots ≡ map Class (classes_in order slots)
 
 -- the numbers below the limit, rising
 pub record AreNumbersBelow (limit : ℕ) (numbers : List ℕ) : Type 0 where

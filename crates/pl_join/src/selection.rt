@@ -1,13 +1,14 @@
 //! The selection of a table's rows by slots.
 
-ghost use Rattle.std.specs.Prelude.{◌≡◌, ◌↔◌, ◌+◌, ◌<◌, ◌≤◌, ◌^◌, ◌++◌, ◌∷◌, [], ℕ, List, length, map};
+ghost use Rattle.std.specs.Prelude.{◌≡◌, ◌↔◌, ◌+◌, ◌<◌, ◌≤◌, ◌^◌, ◌++◌, ◌∷◌, [], ℕ, List, length, map, take};
 ghost use Rattle.std.specs.Prelude.{filter, slice_get, All, Some, IsTrue, Contains, IfOk, OnOk, IfSome};
 ghost use Rattle.std.specs.Prelude.{IfNone};
 ghost use Rattle.pl_rows.specs.Rows.{AreRows, SameRows};
 ghost use Rattle.pl_join.specs.Relation.{AreClassesOf, AreDistinct, IsSelectionOf, IsSlotBelow, IsSlotOver};
 ghost use Rattle.pl_join.specs.Relation.{classes_in};
-ghost use Rattle.pl_join.specs.Source.{ArePlacesOf, AreNumbersBelow, IsGathered, IsTestOf, IsWithin};
-ghost use Rattle.pl_join.specs.Source.{value_at, picked, fits_slots, passes_all};
+ghost use Rattle.pl_join.specs.Source.{ArePlacesOf, AreNumbersBelow, AreRisingClasses, IsGathered, IsTestOf};
+ghost use Rattle.pl_join.specs.Source.{IsWithin, StandInOrder, number_in, value_at, picked, fits_slots};
+ghost use Rattle.pl_join.specs.Source.{passes_all};
 
 use crate::relation::Relation;
 use crate::short_list::ShortList;
@@ -37,6 +38,9 @@ pub fn select<L: Ledger>(
     ensures cost { steps.new ≤ steps.old + length table.now.rows }
     ensures rise { steps.old ≤ steps.new }
 {
+    if are_rising(slots) {
+        return copied_relation(alloc, table, slots);
+    }
     let order = numbers_below(alloc, limit_of(slots))?;
     select_in_order(alloc, table, slots, order.as_slice(), steps)
 }
@@ -44,8 +48,8 @@ pub fn select<L: Ledger>(
 /// The relation that `select` gives, over the classes in an order: those of the order that stand in the
 /// slots.
 ///
-/// It takes at most one probe per row. Where the slots are just these classes, the table is copied; other
-/// rows are sorted unless they come out in order.
+/// It takes at most one probe per row. Where the slots are just these classes, one after another, the table
+/// is copied; other rows are sorted unless they come out in order.
 pub fn select_in_order<L: Ledger>(
     alloc: Global,
     table: &Table,
@@ -62,11 +66,102 @@ pub fn select_in_order<L: Ledger>(
     ensures cost { steps.new ≤ steps.old + length table.now.rows }
     ensures rise { steps.old ≤ steps.new }
 {
-    let (classes, columns) = classes_in(alloc, slots, order)?;
-    if are_just(slots, classes.as_slice()) {
-        return Ok(Relation::new(classes, table.copied(alloc)?));
+    if stand_in_order(slots, order) {
+        return copied_relation(alloc, table, slots);
     }
+    let (classes, columns) = classes_in(alloc, slots, order)?;
     fitting_relation(alloc, table, slots, classes, columns.as_slice(), steps)
+}
+
+/// Whether the slots are classes, and these rise.
+fn are_rising(slots: &[Slot]) -> bool
+    requires { All (IsSlotBelow 64) slots.now }
+    ensures { IsTrue result → AreRisingClasses slots.now }
+{
+    let mut limit = 0;
+    for slot in slots {
+        let Some(class) = class_from(*slot, limit) else {
+            return false;
+        };
+        limit = class + 1;
+    }
+    true
+}
+
+/// The slot's class, if it has one that is not below the limit.
+#[inline]
+fn class_from(slot: Slot, limit: u32) -> Option<u32>
+    ensures { IfSome result (λ class. (slot ≡ Slot.Class class) × (limit ≤ class)) }
+{
+    match slot {
+        Slot::Class(class) if limit <= class => Some(class),
+        _ => None,
+    }
+}
+
+/// Whether the slots are classes that stand in the order's order, each once.
+fn stand_in_order(slots: &[Slot], order: &[u32]) -> bool
+    requires { AreDistinct order.now }
+    ensures { IsTrue result → StandInOrder order.now slots.now }
+{
+    let mut place = 0;
+    for class in order {
+        place = place_past(slots, place, *class);
+    }
+    place == slots.len()
+}
+
+/// The place behind this one where the class stands here, and else this place.
+#[inline]
+fn place_past(slots: &[Slot], place: usize, class: u32) -> usize
+    requires { place ≤ length slots.now }
+    ensures within { result ≤ length slots.now }
+    ensures past { (done : List ℕ) → (Contains done class → ⊥) → StandInOrder done (take place slots.now)
+        → StandInOrder (done ++ class ∷ []) (take result slots.now) }
+{
+    if place == slots.len() {
+        return place;
+    }
+    if !is_class(slots[place], class) {
+        return place;
+    }
+    place + 1
+}
+
+/// The selection by slots that are just classes, each once, over these in the order of the slots: its rows
+/// are the table's.
+fn copied_relation(alloc: Global, table: &Table, slots: &[Slot]) -> Result<Relation, AllocError>
+    requires slots { All (IsSlotBelow 64) slots.now }
+    requires arity { length slots.now ≡ table.now.arity }
+    requires just { slots.now ≡ map Slot.Class (map number_in slots.now) }
+    requires distinct { AreDistinct (map number_in slots.now) }
+    ensures classes { IfOk result (λ r. r.classes ≡ map number_in slots.now) }
+    ensures rows { IfOk result (IsSelectionOf table.now.rows slots.now) }
+{
+    let classes = numbers_in(alloc, slots)?;
+    Ok(Relation::new(classes, table.copied(alloc)?))
+}
+
+/// The numbers in the slots.
+fn numbers_in(alloc: Global, slots: &[Slot]) -> Result<ShortList<u32>, AllocError>
+    ensures { IfOk result (λ r. r.items ≡ map number_in slots.now) }
+{
+    let mut numbers = ShortList::new(alloc);
+    for slot in slots {
+        numbers.push(number_of(*slot))?;
+    }
+    Ok(numbers)
+}
+
+/// The number in the slot: its value or its class.
+#[inline]
+fn number_of(slot: Slot) -> u32
+    ensures { result ≡ number_in slot }
+{
+    match slot {
+        Slot::Fixed(value) => value,
+        Slot::Class(class) => class,
+    }
 }
 
 /// The numbers below the limit, rising.
@@ -78,21 +173,6 @@ fn numbers_below(alloc: Global, limit: u32) -> Result<ShortList<u32>, AllocError
         numbers.push(number)?;
     }
     Ok(numbers)
-}
-
-/// Whether the slots are just these classes, one after another.
-fn are_just(slots: &[Slot], classes: &[u32]) -> bool
-    ensures { IsTrue result → slots.now ≡ map Slot.Class classes.now }
-{
-    if slots.len() != classes.len() {
-        return false;
-    }
-    for (place, slot) in slots.iter().enumerate() {
-        if !is_class(*slot, classes[place]) {
-            return false;
-        }
-    }
-    true
 }
 
 /// The selection by slots that may be fixed, repeat a class or stand in another order than the classes, each

@@ -1,27 +1,32 @@
-use Rattle.std.proofs.Common.{◌∙◌, All, ap, map, sym, subst, ◌<◌}
-use Rattle.pl_rows.specs.Rows.{Rows}
+use Rattle.std.proofs.Common.{◌≡◌, ◌<◌, All, ap, map, sym, subst, ◌∙◌}
+use Rattle.std.proofs.lemmas.Result.{IfOk-weaker}
 use Rattle.pl_join.specs.declared.slot.Slot.TheVariants.{Class}
-use Rattle.pl_join.specs.Relation.{AreDistinct, IsSlotOver}
-use Rattle.pl_join.proofs.Copying.{just_selected}
+use Rattle.pl_join.specs.Relation.{ClassRows, AreDistinct, IsSlotOver, classes_in}
+use Rattle.pl_join.specs.Source.{number_in}
+use Rattle.pl_join.proofs.Copying.{numbers_in_order}
 use Rattle.pl_join.proofs.Gathering.{in_order_distinct, in_order_below, in_order_over}
 use Rattle.pl_join.proofs.selection.select_in_order.Goals as goal
 
-pub new-requires-clause-distinct : goal.new-requires-clause-distinct
-new-requires-clause-distinct g c =
-    subst AreDistinct (sym c.in_ok-classes.ensures.classes_are)
+pub copied_relation-requires-clause-just : goal.copied_relation-requires-clause-just
+copied_relation-requires-clause-just g c =
+    let stand = c.stand_in_order.ensures c.if-stand_in_order.true in
+    stand ∙ ap (map Class) (sym (numbers_in_order c.args.order.now c.args.slots.now stand))
+
+pub copied_relation-requires-clause-distinct : goal.copied_relation-requires-clause-distinct
+copied_relation-requires-clause-distinct g c =
+    subst AreDistinct
+    (sym (numbers_in_order c.args.order.now c.args.slots.now
+    (c.stand_in_order.ensures c.if-stand_in_order.true)))
     (in_order_distinct c.args.order.now c.args.slots.now c.requires.distinct)
 
-pub new-requires-clause-below : goal.new-requires-clause-below
-new-requires-clause-below g c =
-    subst (All (λ c. c < 64)) (sym c.in_ok-classes.ensures.classes_are)
-    (in_order_below c.args.order.now c.args.slots.now c.requires.slots)
-
-pub returns-then-are_just-clause-rows : goal.returns-then-are_just-clause-rows
-returns-then-are_just-clause-rows g c =
-    just_selected c.args.table.now.rows c.args.slots.now c.in_ok-classes.classes.items
-    c.in_ok-copied.field-0 c.new-then-are_just.result
-    (c.are_just.ensures c.if-are_just.true ∙ ap (map Class) c.as_slice.ensures)
-    (ap (λ (t : Rows). t.rows) c.in_ok-copied.ensures.same) c.new-then-are_just.ensures
+pub returns-then-stand_in_order-clause-classes : goal.returns-then-stand_in_order-clause-classes
+returns-then-stand_in_order-clause-classes g c =
+    IfOk-weaker c.copied_relation.result
+    (λ (r : ClassRows). r.classes ≡ map number_in c.args.slots.now)
+    (λ (r : ClassRows). r.classes ≡ classes_in c.args.order.now c.args.slots.now)
+    (λ r is. is ∙ numbers_in_order c.args.order.now c.args.slots.now
+    (c.stand_in_order.ensures c.if-stand_in_order.true))
+    c.copied_relation.ensures.classes
 
 pub fitting_relation-requires-clause-distinct : goal.fitting_relation-requires-clause-distinct
 fitting_relation-requires-clause-distinct g c =
