@@ -1,7 +1,7 @@
 //! The rows of an index whose keys are the rows of a table.
 
 ghost use Rattle.std.specs.Prelude.{◌≡◌, ◌↔◌, ◌+◌, ◌*◌, ◌<◌, ◌≤◌, ◌^◌, length, filter, IsTrue, IfOk, IfSome};
-ghost use Rattle.std.specs.Prelude.{IfNone};
+ghost use Rattle.std.specs.Prelude.{IfNone, OnOk};
 ghost use Rattle.pl_rows.specs.Rows.{AreRows, SameRows};
 ghost use Rattle.pl_join.specs.Found.{has_key, rows_in, AreRanges, AreFound};
 
@@ -9,6 +9,24 @@ use pl_rows::{Indexed, Range, Table, TableBuilder};
 use pl_steps::Steps;
 use std::alloc::{AllocError, Global};
 use std::sync::ledger::Ledger;
+
+/// A buffer in which a reduction of a keyed relation notes where the rows stand that it finds.
+///
+/// What it holds between calls means nothing. Many reductions that share one take memory for it only where
+/// one of them finds more than all before.
+#[derive(Drop)]
+pub struct Ranges {
+    found: Vec<Range>,
+}
+
+impl Ranges {
+    /// A buffer that takes no memory until it is first used.
+    pub fn new(alloc: Global) -> Ranges {
+        Ranges {
+            found: Vec::new(alloc),
+        }
+    }
+}
 
 /// The rows of the index whose keys are rows of the table, where some are not; None where all are, and then
 /// nothing is copied.
@@ -18,6 +36,7 @@ pub fn rows_found<L: Ledger>(
     alloc: Global,
     indexed: &Indexed,
     keys: &Table,
+    ranges: &mut Ranges,
     steps: &mut Steps<L>,
 ) -> Result<Option<Table>, AllocError>
     requires width { keys.now.arity ≡ indexed.now.width }
@@ -31,34 +50,37 @@ pub fn rows_found<L: Ledger>(
     ensures cost { steps.new ≤ steps.old + 2 * length keys.now.rows }
     ensures rise { steps.old ≤ steps.new }
 {
-    let ranges = ranges_found(alloc, indexed, keys, steps)?;
+    find_ranges(&mut ranges.found, indexed, keys, steps)?;
+    let ranges = ranges.found.as_slice();
     let table = indexed.table();
-    if cover_all(&ranges, table) {
+    if cover_all(ranges, table) {
         return Ok(None);
     }
-    Ok(Some(gathered(alloc, &ranges, table)?))
+    Ok(Some(gathered(alloc, ranges, table)?))
 }
 
-/// Where the rows of the index stand whose keys are the rows of the table, one range for each row.
-fn ranges_found<L: Ledger>(
-    alloc: Global,
+/// Makes `ranges` the list of where the rows of the index stand whose keys are the rows of the table, one for
+/// each row.
+fn find_ranges<L: Ledger>(
+    ranges: &mut Vec<Range>,
     indexed: &Indexed,
     keys: &Table,
     steps: &mut Steps<L>,
-) -> Result<Vec<Range>, AllocError>
+) -> Result<(), AllocError>
     requires { keys.now.arity ≡ indexed.now.width }
     ensures keys { AreRows keys.now.arity keys.now.rows }
-    ensures found { IfOk result (λ ranges. AreFound indexed.now.table.rows keys.now.rows ranges.items) }
+    ensures found { OnOk result (AreFound indexed.now.table.rows keys.now.rows ranges.new.items) }
     ensures cost { steps.new ≤ steps.old + 2 * length keys.now.rows }
     ensures rise { steps.old ≤ steps.new }
 {
     let len = keys.len();
-    let mut ranges = Vec::with_capacity(alloc, len)?;
+    ranges.clear();
+    ranges.reserve(len)?;
     for i in 0..len {
         let key = keys.row(i, steps);
         ranges.push(indexed.find(key, steps))?;
     }
-    Ok(ranges)
+    Ok(())
 }
 
 /// Whether the ranges have as many rows as the table. They have each of its rows at most once.

@@ -7,7 +7,7 @@ ghost use Rattle.pl_join.specs.Relation.{Assignment, AreDistinct, Holds, IsRelat
 ghost use Rattle.pl_join.specs.Relation.{IsSemijoinOf, has_class, without};
 ghost use Rattle.pl_join.specs.Keyed.{IsSharedKey, key_of};
 
-use crate::found::rows_found;
+use crate::found::{Ranges, rows_found};
 use crate::joins::appended;
 use crate::lookup::Lookup;
 use crate::projection::project;
@@ -215,11 +215,13 @@ pub fn reduction_by_keyed<L: Ledger>(
 /// of `keep`, which is then not copied. The key has just the classes that the two share.
 ///
 /// It takes at most as many probes as `reduction`, and at most three per row of `by`: the keys that `by` has
-/// are looked up, unless `keep` is so small that going through its rows is less.
+/// are looked up, unless `keep` is so small that going through its rows is less. What was found is noted in
+/// `ranges`.
 pub fn reduction_of_keyed<L: Ledger>(
     alloc: Global,
     keep: &Keyed,
     by: &Relation,
+    ranges: &mut Ranges,
     steps: &mut Steps<L>,
 ) -> Result<Option<Relation>, AllocError>
     requires { IsSharedKey keep.now by.now.classes }
@@ -232,7 +234,7 @@ pub fn reduction_of_keyed<L: Ledger>(
     ensures rise { steps.old ≤ steps.new }
 {
     let keys = project(alloc, by, keep.key(), steps)?;
-    key_reduced(alloc, keep, &keys, steps)
+    key_reduced(alloc, keep, &keys, ranges, steps)
 }
 
 /// The rows of the keyed relation whose keys are rows of the other, where some are not; None where all are.
@@ -240,6 +242,7 @@ fn key_reduced<L: Ledger>(
     alloc: Global,
     keep: &Keyed,
     keys: &Relation,
+    ranges: &mut Ranges,
     steps: &mut Steps<L>,
 ) -> Result<Option<Relation>, AllocError>
     requires { keys.now.classes ≡ key_of keep.now }
@@ -257,7 +260,7 @@ fn key_reduced<L: Ledger>(
         let other = Lookup::Rows(keys.table());
         return looked_up(alloc, keep.classes(), table, key, other, steps);
     }
-    match rows_found(alloc, keep.indexed(), keys.table(), steps)? {
+    match rows_found(alloc, keep.indexed(), keys.table(), ranges, steps)? {
         Some(kept) => Ok(Some(Relation::new(ShortList::from_slice(alloc, keep.classes())?, kept))),
         None => Ok(None),
     }

@@ -22,6 +22,7 @@ mod source;
 mod tests;
 
 pub use filters::{filter_absent, filter_unequal};
+pub use found::Ranges;
 pub use joins::hash_join;
 pub use keyed::{Keyed, reduction_by_keyed, reduction_of_keyed};
 pub use projection::project;

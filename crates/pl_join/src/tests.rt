@@ -5,8 +5,8 @@ ghost use Rattle.pl_join.specs.Relation.{AreDistinct, IsSlotOver, IsSlotBelow};
 
 use crate::semijoins::has;
 use crate::{
-    Keyed, Relation, Slot, filter_absent, filter_unequal, hash_join, laws, project, reduction,
-    reduction_by_keyed, reduction_of_keyed, select, semijoin,
+    Keyed, Ranges, Relation, Slot, filter_absent, filter_unequal, hash_join, laws, project,
+    reduction, reduction_by_keyed, reduction_of_keyed, select, semijoin,
 };
 use Slot::{Class, Fixed};
 use pl_rows::Table;
@@ -489,7 +489,7 @@ fn of_keyed<L: Ledger>(
     if !keep.shares_key(by.classes()) {
         return Ok(None);
     }
-    reduction_of_keyed(alloc, &keep, by, steps)
+    reduction_of_keyed(alloc, &keep, by, &mut Ranges::new(alloc), steps)
 }
 
 fn called<L: Ledger>(

@@ -5,7 +5,9 @@ ghost use Rattle.pl_join.specs.Keyed.{KeyedRows};
 ghost use Rattle.pl_reduce.specs.Recipes.{option_at};
 ghost use Rattle.pl_reduce.specs.Lent.{keyed_at, node_with, AreThere, IsTurned, IsLentPair, IsReductionBy};
 
-use pl_join::{Keyed, Relation, project, reduction, reduction_by_keyed, reduction_of_keyed};
+use pl_join::{
+    Keyed, Ranges, Relation, project, reduction, reduction_by_keyed, reduction_of_keyed,
+};
 use pl_steps::Steps;
 use std::alloc::{AllocError, Global};
 use std::sync::ledger::Ledger;
@@ -19,6 +21,7 @@ pub fn parent_reduction<L: Ledger>(
     own: &[Option<Relation>],
     parent: usize,
     node: usize,
+    ranges: &mut Ranges,
     steps: &mut Steps<L>,
 ) -> Result<Option<Relation>, AllocError>
     requires parent { parent < length own.now }
@@ -42,6 +45,7 @@ pub fn parent_reduction<L: Ledger>(
                 lent_at(lent, parent),
                 turned_at(turned, node),
                 by,
+                ranges,
                 steps,
             ),
             None => Ok(None),
@@ -57,6 +61,7 @@ pub fn node_reduction<L: Ledger>(
     own: &[Option<Relation>],
     parent: usize,
     node: usize,
+    ranges: &mut Ranges,
     steps: &mut Steps<L>,
 ) -> Result<Option<Relation>, AllocError>
     requires parent { parent < length own.now }
@@ -81,7 +86,7 @@ pub fn node_reduction<L: Ledger>(
             ),
         },
         None => match own_at(own, parent) {
-            Some(by) => of_lent(alloc, lent_at(lent, node), by, steps),
+            Some(by) => of_lent(alloc, lent_at(lent, node), by, ranges, steps),
             None => Ok(None),
         },
     }
@@ -181,6 +186,7 @@ fn of_lent<L: Ledger>(
     alloc: Global,
     keep: &Keyed,
     by: &Relation,
+    ranges: &mut Ranges,
     steps: &mut Steps<L>,
 ) -> Result<Option<Relation>, AllocError>
     ensures reduction { IfOk result (IsReductionBy keep.now.relation by.now) }
@@ -188,7 +194,7 @@ fn of_lent<L: Ledger>(
     ensures rise { steps.old ≤ steps.new }
 {
     if keep.shares_key(by.classes()) {
-        return reduction_of_keyed(alloc, keep, by, steps);
+        return reduction_of_keyed(alloc, keep, by, ranges, steps);
     }
     let whole = keep.copied(alloc)?;
     reduction(alloc, &whole, by, steps)
@@ -201,6 +207,7 @@ fn of_parent<L: Ledger>(
     parent: &Keyed,
     turned: Option<&Keyed>,
     by: &Relation,
+    ranges: &mut Ranges,
     steps: &mut Steps<L>,
 ) -> Result<Option<Relation>, AllocError>
     requires { IfSome turned (λ t. IsTurned parent.now t.now) }
@@ -209,15 +216,15 @@ fn of_parent<L: Ledger>(
     ensures rise { steps.old ≤ steps.new }
 {
     let Some(turned) = turned else {
-        return of_lent(alloc, parent, by, steps);
+        return of_lent(alloc, parent, by, ranges, steps);
     };
     if by.table().len() > parent.table().len() / 2 {
-        return of_lent(alloc, parent, by, steps);
+        return of_lent(alloc, parent, by, ranges, steps);
     }
     if !turned.shares_key(by.classes()) {
-        return of_lent(alloc, parent, by, steps);
+        return of_lent(alloc, parent, by, ranges, steps);
     }
-    let Some(kept) = reduction_of_keyed(alloc, turned, by, steps)? else {
+    let Some(kept) = reduction_of_keyed(alloc, turned, by, ranges, steps)? else {
         return Ok(None);
     };
     Ok(Some(project(alloc, &kept, parent.classes(), steps)?))

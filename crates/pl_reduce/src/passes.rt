@@ -6,7 +6,7 @@ ghost use Rattle.pl_reduce.specs.Passes.{total_rows};
 ghost use Rattle.pl_reduce.specs.Lent.{node_with, nodes_with, AreThere, AreLent, IsLentPair};
 
 use crate::pairs::{lent_at, node_reduction, own_at, parent_reduction};
-use pl_join::{Keyed, Relation};
+use pl_join::{Keyed, Ranges, Relation};
 use pl_steps::Steps;
 use std::alloc::{AllocError, Global};
 use std::sync::ledger::Ledger;
@@ -40,17 +40,18 @@ pub fn reduce_all<L: Ledger>(
     if has_empty(lent, own) {
         return empty_all(alloc, lent, own);
     }
+    let ranges = &mut Ranges::new(alloc);
     let last = own.len() - 1;
     for before in 0..last {
         let node = before + 1;
-        reduce_parent(alloc, lent, turned, own, parents[node], node, steps)?;
+        reduce_parent(alloc, lent, turned, own, parents[node], node, ranges, steps)?;
         if is_empty_at(lent, own, parents[node]) {
             return empty_all(alloc, lent, own);
         }
     }
     for done in 0..last {
         let node = last - done;
-        reduce_node(alloc, lent, turned, own, parents[node], node, steps)?;
+        reduce_node(alloc, lent, turned, own, parents[node], node, ranges, steps)?;
     }
     Ok(())
 }
@@ -126,6 +127,7 @@ fn reduce_parent<L: Ledger>(
     own: &mut Vec<Option<Relation>>,
     parent: usize,
     node: usize,
+    ranges: &mut Ranges,
     steps: &mut Steps<L>,
 ) -> Result<(), AllocError>
     requires parent { parent < length own.old.items }
@@ -140,7 +142,7 @@ fn reduce_parent<L: Ledger>(
         + rows_at (nodes_with lent.now own.old.items) node }
     ensures rise { steps.old ≤ steps.new }
 {
-    if let Some(kept) = parent_reduction(alloc, lent, turned, own, parent, node, steps)? {
+    if let Some(kept) = parent_reduction(alloc, lent, turned, own, parent, node, ranges, steps)? {
         own[parent] = Some(kept);
     }
     Ok(())
@@ -154,6 +156,7 @@ fn reduce_node<L: Ledger>(
     own: &mut Vec<Option<Relation>>,
     parent: usize,
     node: usize,
+    ranges: &mut Ranges,
     steps: &mut Steps<L>,
 ) -> Result<(), AllocError>
     requires parent { parent < length own.old.items }
@@ -168,7 +171,7 @@ fn reduce_node<L: Ledger>(
         + rows_at (nodes_with lent.now own.old.items) parent }
     ensures rise { steps.old ≤ steps.new }
 {
-    if let Some(kept) = node_reduction(alloc, lent, turned, own, parent, node, steps)? {
+    if let Some(kept) = node_reduction(alloc, lent, turned, own, parent, node, ranges, steps)? {
         own[node] = Some(kept);
     }
     Ok(())

@@ -1,7 +1,7 @@
 use Rattle.std.proofs.Common.{[], arith}
 use Rattle.std.proofs.lemmas.Option.{slice_get_within, get_or_from_slice_get}
 use Rattle.pl_join.proofs.Founds.{found_more}
-use Rattle.pl_join.proofs.found.ranges_found.Goals as goal
+use Rattle.pl_join.proofs.found.find_ranges.Goals as goal
 
 pub loop-i-preserved : goal.loop-i-preserved
 loop-i-preserved g c = record {

@@ -1,6 +1,6 @@
 use Rattle.std.proofs.Common.{◌≡◌, ◌+◌, ◌*◌, take}
 use Rattle.pl_join.specs.Found.{AreFound}
-use Rattle.pl_join.proofs.found.ranges_found.Given as goal
+use Rattle.pl_join.proofs.found.find_ranges.Given as goal
 
 abbrev pub invariant-loop-i : goal.invariant-loop-i
 invariant-loop-i g l = record {
