@@ -10,5 +10,3 @@ mod Sifted
 mod SiftedTrials
 mod SiftedTurns
 mod SiftedWhole
--- the task of tests
-mod MarkLemmas

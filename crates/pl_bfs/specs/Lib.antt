@@ -5,5 +5,3 @@ pub mod Width
 -- what its parts promise each other
 pub mod UnderWay
 pub mod Sifting
--- the task of tests
-pub mod Marks

@@ -19,8 +19,3 @@ pub use pl_registry::{Ended, Outcome, Stats};
 pub use searching::breadth;
 pub use width_ended::{WidthEnded, WidthOutcome};
 pub use width_search::width;
-
-#[cfg(test)]
-mod tests;
-#[cfg(test)]
-mod width_tests;

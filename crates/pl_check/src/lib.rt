@@ -38,6 +38,3 @@ pub use checking::check;
 pub use fault::{CheckEnd, FaultKind, InputFault, StepEnd};
 pub use plan_lines::{read_plan, read_step};
 pub use role::FileRole;
-
-#[cfg(test)]
-mod tests;

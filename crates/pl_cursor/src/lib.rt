@@ -11,7 +11,5 @@ pub mod laws;
 mod layout;
 mod narrow;
 mod position;
-#[cfg(test)]
-mod tests;
 
 pub use cursor::Cursor;

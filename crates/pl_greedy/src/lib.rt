@@ -13,6 +13,3 @@ mod searching;
 
 pub use pl_registry::{Ended, Outcome, Stats};
 pub use searching::greedy;
-
-#[cfg(test)]
-mod tests;

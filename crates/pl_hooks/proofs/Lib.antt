@@ -11,5 +11,3 @@ pub mod Cuts
 -- for searches: the initial state, and one step of an expanded state
 pub mod Firsts
 pub mod Trials
--- the task of the tests
-pub mod TwinLemmas

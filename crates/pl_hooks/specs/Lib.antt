@@ -10,5 +10,3 @@ pub use Rattle.pl_registry.specs.Cut
 pub mod Hopeless
 -- what is decided once a task
 pub mod Fixed
--- the task of the tests
-pub mod Twins

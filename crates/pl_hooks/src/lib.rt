@@ -19,6 +19,3 @@ pub use hopeless_test::HopelessTest;
 pub use pruner::Pruner;
 pub use ranker::Ranker;
 pub use trying::try_step;
-
-#[cfg(test)]
-mod tests;

@@ -16,8 +16,6 @@ mod removal;
 mod search;
 mod sets;
 mod sharing;
-#[cfg(test)]
-mod tests;
 
 pub use ear::Ear;
 pub use finder::EdgeFinder;

@@ -4,8 +4,6 @@
 #![tactic(auto)]
 
 mod begun;
-#[cfg(test)]
-mod block_tests;
 mod blocks;
 mod error;
 mod file_shelf;
@@ -19,8 +17,6 @@ mod shelf;
 mod sink;
 mod streams;
 mod sure_sink;
-#[cfg(test)]
-mod tests;
 mod tries;
 
 pub use blocks::Blocks;

@@ -18,8 +18,6 @@ mod semijoins;
 mod short_list;
 mod slot;
 mod source;
-#[cfg(test)]
-mod tests;
 
 pub use filters::{filter_absent, filter_unequal};
 pub use found::Ranges;

@@ -8,7 +8,5 @@ mod classes;
 mod joining;
 pub mod laws;
 mod sequence;
-#[cfg(test)]
-mod tests;
 
 pub use joining::core_table;

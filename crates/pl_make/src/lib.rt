@@ -7,8 +7,6 @@
 mod hop;
 mod kind;
 mod making;
-#[cfg(test)]
-mod tests;
 mod wide;
 mod writing;
 

@@ -9,8 +9,6 @@ mod directory;
 mod entries;
 pub mod laws;
 mod names;
-#[cfg(test)]
-mod tests;
 
 pub use appearances::Appearances;
 pub use names::Names;

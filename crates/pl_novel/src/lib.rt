@@ -16,6 +16,3 @@ mod pair;
 mod pairing;
 
 pub use novelty::Novelty;
-
-#[cfg(test)]
-mod tests;

@@ -8,8 +8,6 @@ mod plan;
 mod stats;
 mod step;
 mod step_in_blocks;
-#[cfg(test)]
-mod tests;
 mod verdict;
 
 pub use fault::{Fault, put_fault};

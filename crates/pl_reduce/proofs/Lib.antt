@@ -27,3 +27,5 @@ mod PlanNodes
 mod EdgeSets
 mod Laying
 mod Endings
+-- relations over the classes of their nodes
+mod Overs

@@ -36,11 +36,25 @@ pub record AreOverNodesOf (plan : Removal) (relations : List (Option ClassRows))
       → option_at relations (suc i) ≡ Some r →
       Contains r.classes c ↔ Holds plan.edges (ear_at plan i d).edge c
 
+-- the relation is over the classes of an ear's edge
+abbrev pub IsOverEar : Removal → ClassRows → ℕ → Type 0
+IsOverEar plan r i = (c : ℕ) (d : Ear) → Contains r.classes c ↔ Holds plan.edges (ear_at plan i d).edge c
+
+-- the relation of a node, if it has one, is over the classes of the node
+pub record IsOverNodeOf (plan : Removal) (node : ℕ) (relation : Option ClassRows) : Type 0 where
+  pub root_order : (r : ClassRows) → node ≡ 0 → relation ≡ Some r → r.classes ≡ core_order plan
+  pub ear : (r : ClassRows) (i : ℕ) → node ≡ suc i → relation ≡ Some r → IsOverEar plan r i
+
 -- the relations are fixed ones of the plan's nodes
 pub record AreFixed (plan : Removal) (fixed : List (Option ClassRows)) : Type 0 where
   pub core : 0 < length plan.core
   pub many : length fixed ≡ suc (length plan.removed)
   pub over : AreOverNodesOf plan fixed
+
+-- there is a relation for just those nodes that have no fixed one
+pub record AreForOthers (fixed given : List (Option ClassRows)) : Type 0 where
+  pub many : length given ≡ length fixed
+  pub one_each : (k : ℕ) → k < length given → is_some (option_at given k) ≡ not (is_some (option_at fixed k))
 
 -- the relations are given for just those nodes that have no fixed one
 pub record AreGiven (join : FixedJoin) (given : List (Option ClassRows)) : Type 0 where

@@ -18,8 +18,6 @@ mod recipe;
 mod reduced;
 mod reducer;
 mod storing;
-#[cfg(test)]
-mod tests;
 
 pub use layout::{Layout, Stop};
 pub use recipe::Recipe;

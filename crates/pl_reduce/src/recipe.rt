@@ -1,8 +1,8 @@
 //! A join with fixed relations: what callers read and make.
 
-ghost use Rattle.std.specs.Prelude.{◌≡◌, ◌<◌, ◌≤◌, IfOk, length, is_some};
+ghost use Rattle.std.specs.Prelude.{◌≡◌, ◌↔◌, ◌<◌, ◌≤◌, IfOk, IsTrue, length, is_some};
 ghost use Rattle.pl_hyper.specs.ClassOrder.{class_order};
-ghost use Rattle.pl_reduce.specs.Recipes.{option_at, AreFixed};
+ghost use Rattle.pl_reduce.specs.Recipes.{option_at, AreFixed, AreForOthers};
 
 use crate::fixing::{fix_all, turn_all};
 use crate::layout::Layout;
@@ -108,6 +108,22 @@ impl Recipe {
         ensures { result ≡ is_some (option_at self.now.fixed node) }
     {
         self.lent[node].is_some()
+    }
+
+    /// Whether a relation is given for just those nodes that have no fixed one, as `Reduced::reduce_with`
+    /// wants it.
+    pub fn lacks(&self, given: &[Option<Relation>]) -> bool
+        ensures { IsTrue result ↔ AreForOthers self.now.fixed given.now }
+    {
+        if given.len() != self.nodes() {
+            return false;
+        }
+        for node in 0..given.len() {
+            if given[node].is_some() != !self.is_fixed(node) {
+                return false;
+            }
+        }
+        true
     }
 
     /// The classes in class order: that in which the walk over the nodes meets them.

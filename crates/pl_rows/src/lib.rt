@@ -12,8 +12,6 @@ mod pairs;
 mod range;
 mod sort;
 mod table;
-#[cfg(test)]
-mod tests;
 
 pub use builder::TableBuilder;
 pub use indexed::Indexed;

@@ -29,6 +29,3 @@ pub use parts::true_rows;
 pub use rows::Rows;
 pub use statics::StaticAtoms;
 pub use tabling::{StateTables, tables};
-
-#[cfg(test)]
-mod tests;

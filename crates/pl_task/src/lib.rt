@@ -23,6 +23,3 @@ pub use list::List;
 pub use plan::{Plan, PlanLine};
 pub use step::{Mark, Step, StepRef};
 pub use task::Task;
-
-#[cfg(test)]
-mod tests;

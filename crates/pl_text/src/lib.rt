@@ -13,8 +13,6 @@ mod lines;
 mod reader;
 mod reading;
 mod scan;
-#[cfg(test)]
-mod tests;
 mod words;
 
 pub use fault::{MAX_DEPTH, TextEnd, TextFault};

@@ -7,8 +7,6 @@
 #![tactic(auto)]
 
 mod ending;
-#[cfg(test)]
-mod failing_tests;
 pub mod laws;
 mod listing;
 mod make_request;
@@ -30,6 +28,3 @@ mod words;
 
 pub use running::run;
 pub use words::Words;
-
-#[cfg(test)]
-mod tests;

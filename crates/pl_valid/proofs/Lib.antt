@@ -4,5 +4,3 @@ mod AtomSets
 mod StepLemmas
 -- lines that were executed, and that there is one verdict
 mod RunLemmas
--- the task of the tests
-mod LampLemmas

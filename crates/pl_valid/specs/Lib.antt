@@ -3,5 +3,3 @@ pub mod Verdict
 pub mod Laws
 -- what the functions inside the crate promise each other
 pub mod Judging
--- the task of the tests
-pub mod Lamps

@@ -18,6 +18,3 @@ mod verdict;
 
 pub use judging::judge;
 pub use verdict::{Reason, Verdict};
-
-#[cfg(test)]
-mod tests;

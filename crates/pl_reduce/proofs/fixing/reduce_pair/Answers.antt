@@ -1,5 +1,3 @@
-use Rattle.std.proofs.Common.{Some, subst, sym}
-use Rattle.pl_reduce.specs.Fixing.{IsFixedBy, IsPairReduction}
 use Rattle.pl_reduce.specs.Recipes.{option_at}
 use Rattle.pl_reduce.proofs.Fixations.{pair_smaller, pair_same}
 use Rattle.pl_reduce.proofs.Origins.{pair_there}

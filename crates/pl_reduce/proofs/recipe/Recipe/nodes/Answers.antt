@@ -1,4 +1,4 @@
-use Rattle.std.proofs.Common.{◌≡◌, arith}
+use Rattle.std.proofs.Common.{arith}
 use Rattle.pl_reduce.proofs.Origins.{handed_lent}
 use Rattle.pl_reduce.proofs.recipe.Recipe.nodes.Goals as goal
 

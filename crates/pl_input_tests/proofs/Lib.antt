@@ -1,0 +1,2 @@
+-- the task of lamps is well-formed
+mod LampLemmas

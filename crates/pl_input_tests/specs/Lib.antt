@@ -1,0 +1,2 @@
+-- a task of lamps and switches
+pub mod Lamps

@@ -1,4 +1,0 @@
-use Rattle.pl_join.proofs.tests.calls_give_the_classes_and_rows_by_hand.Given as goal
-
-abbrev pub ghosts-is_met : goal.ghosts-is_met
-ghosts-is_met g a = record { name = a.blank.name; parts = a.blank.parts }

@@ -1,7 +1,0 @@
-use Rattle.std.proofs.Common.{◌<◌, All, take}
-use Rattle.pl_task.specs.declared.data.ObjectDef.{ObjectDef}
-use Rattle.pl_task.proofs.tests.are_objects.Given as goal
-
-abbrev pub invariant-loop-definition : goal.invariant-loop-definition
-invariant-loop-definition l = All (λ (o : ObjectDef). All (λ t. t < l.count) o.types)
-    (take l.definition-index l.objects)

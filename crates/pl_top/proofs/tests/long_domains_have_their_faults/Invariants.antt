@@ -1,4 +1,0 @@
-use Rattle.pl_top.proofs.tests.long_domains_have_their_faults.Given as goal
-
-abbrev pub ghosts-is_met_over : goal.ghosts-is_met_over
-ghosts-is_met_over g a = record { name = a.blank.name; parts = a.blank.parts }
