@@ -1,5 +1,5 @@
 use Rattle.std.proofs.Common.{◌≡◌, ◌+◌, ◌-◌, ◌<◌, ◌++◌, All, Contains, length, ap, sym, subst}
-use Rattle.std.proofs.Common.{◌∙◌, arith}
+use Rattle.std.proofs.Common.{◌∙◌, arith, ℕ, List}
 use Rattle.std.proofs.lemmas.List.{append-nil, length-append}
 use Rattle.std.proofs.lemmas.Result.{IfOk-weaker}
 use Rattle.pl_rows.specs.Rows.{Rows, AreRows}
@@ -10,6 +10,23 @@ use Rattle.pl_join.proofs.Operations.{shared_held, chosen_is}
 use Rattle.pl_join.proofs.Joining.{none_left, all_among, arranged_held, arranged_distinct, arranged_few}
 use Rattle.pl_join.proofs.Joining.{joined_distinct, joined_below, joined_made}
 use Rattle.pl_join.proofs.joins.hash_join.Goals as goal
+
+-- the shared classes and then the rest, as they are made
+arranged_is : (classes others given given_others shared_items shared rest_items rest : List ℕ)
+    → given ≡ classes → given_others ≡ others → shared_items ≡ shared_with given given_others
+    → shared ≡ shared_items → rest_items ≡ without given given_others → rest ≡ rest_items
+    → shared ++ rest ≡ shared_with classes others ++ without classes others
+arranged_is classes others given given_others shared_items shared rest_items rest c o made s left r =
+    ap (λ xs. xs ++ rest) (chosen_is shared_with classes others _ _ _ _ c o made s)
+    ∙ ap (λ xs. shared_with classes others ++ xs) (chosen_is without classes others _ _ _ _ c o left r)
+
+-- the classes of the join, as they are made
+joined_is : (classes others given given_others rest_items rest all : List ℕ) → given ≡ classes
+    → given_others ≡ others → rest_items ≡ without given given_others → rest ≡ rest_items
+    → all ≡ given_others ++ rest → all ≡ others ++ without classes others
+joined_is classes others given given_others rest_items rest all c o left r made =
+    made ∙ ap (λ xs. xs ++ rest) o
+    ∙ ap (λ xs. others ++ xs) (chosen_is without classes others _ _ _ _ c o left r)
 
 pub restricted-requires : goal.restricted-requires
 restricted-requires g c =
@@ -47,37 +64,19 @@ columns_of-requires g c =
 
 pub indexed-requires-clause-held : goal.indexed-requires-clause-held
 indexed-requires-clause-held g c =
-    let rest : c.as_slice-rest.result.now ≡ without c.args.right.now.classes c.args.left.now.classes =
-    chosen_is without c.args.right.now.classes c.args.left.now.classes _ _ _ _
-    c.classes-others.ensures.classes c.classes-classes.ensures.classes c.in_ok-rest.ensures
+    let both = arranged_is c.args.right.now.classes c.args.left.now.classes _ _ _
+    c.as_slice-shared.result.now _ c.as_slice-rest.result.now c.classes-others.ensures.classes
+    c.classes-classes.ensures.classes c.in_ok-shared.ensures c.as_slice-shared.ensures c.in_ok-rest.ensures
     c.as_slice-rest.ensures in
-    let shared : c.as_slice-shared.result.now ≡ shared_with c.args.right.now.classes c.args.left.now.classes =
-    chosen_is shared_with c.args.right.now.classes c.args.left.now.classes _ _ _ _
-    c.classes-others.ensures.classes c.classes-classes.ensures.classes c.in_ok-shared.ensures
-    c.as_slice-shared.ensures in
-    let both : c.as_slice-shared.result.now ++ c.as_slice-rest.result.now ≡ shared_with
-    c.args.right.now.classes c.args.left.now.classes
-    ++ without c.args.right.now.classes c.args.left.now.classes =
-    ap (λ s. s ++ c.as_slice-rest.result.now) shared
-    ∙ ap (λ r. shared_with c.args.right.now.classes c.args.left.now.classes ++ r) rest in
     subst (All (Contains c.args.right.now.classes)) (sym both)
     (arranged_held c.args.right.now.classes c.args.left.now.classes)
 
 pub indexed-requires-clause-distinct : goal.indexed-requires-clause-distinct
 indexed-requires-clause-distinct g c =
-    let rest : c.as_slice-rest.result.now ≡ without c.args.right.now.classes c.args.left.now.classes =
-    chosen_is without c.args.right.now.classes c.args.left.now.classes _ _ _ _
-    c.classes-others.ensures.classes c.classes-classes.ensures.classes c.in_ok-rest.ensures
+    let both = arranged_is c.args.right.now.classes c.args.left.now.classes _ _ _
+    c.as_slice-shared.result.now _ c.as_slice-rest.result.now c.classes-others.ensures.classes
+    c.classes-classes.ensures.classes c.in_ok-shared.ensures c.as_slice-shared.ensures c.in_ok-rest.ensures
     c.as_slice-rest.ensures in
-    let shared : c.as_slice-shared.result.now ≡ shared_with c.args.right.now.classes c.args.left.now.classes =
-    chosen_is shared_with c.args.right.now.classes c.args.left.now.classes _ _ _ _
-    c.classes-others.ensures.classes c.classes-classes.ensures.classes c.in_ok-shared.ensures
-    c.as_slice-shared.ensures in
-    let both : c.as_slice-shared.result.now ++ c.as_slice-rest.result.now ≡ shared_with
-    c.args.right.now.classes c.args.left.now.classes
-    ++ without c.args.right.now.classes c.args.left.now.classes =
-    ap (λ s. s ++ c.as_slice-rest.result.now) shared
-    ∙ ap (λ r. shared_with c.args.right.now.classes c.args.left.now.classes ++ r) rest in
     subst AreDistinct (sym both)
     (arranged_distinct c.args.right.now.classes c.args.left.now.classes
     c.classes-others.ensures.relation.distinct)
@@ -111,28 +110,18 @@ joined_rows-requires-clause-rows g c =
 
 pub new-requires-clause-distinct : goal.new-requires-clause-distinct
 new-requires-clause-distinct g c =
-    let rest : c.as_slice-rest.result.now ≡ without c.args.right.now.classes c.args.left.now.classes =
-    chosen_is without c.args.right.now.classes c.args.left.now.classes _ _ _ _
-    c.classes-others.ensures.classes c.classes-classes.ensures.classes c.in_ok-rest.ensures
-    c.as_slice-rest.ensures in
-    let items : c.in_ok-appended.field-0.items ≡ c.args.left.now.classes
-    ++ without c.args.right.now.classes c.args.left.now.classes =
-    c.in_ok-appended.ensures ∙ ap (λ l. l ++ c.as_slice-rest.result.now) c.classes-classes.ensures.classes
-    ∙ ap (λ r. c.args.left.now.classes ++ r) rest in
+    let items = joined_is c.args.right.now.classes c.args.left.now.classes _ _ _ c.as_slice-rest.result.now
+    c.in_ok-appended.field-0.items c.classes-others.ensures.classes c.classes-classes.ensures.classes
+    c.in_ok-rest.ensures c.as_slice-rest.ensures c.in_ok-appended.ensures in
     subst AreDistinct (sym items)
     (joined_distinct c.args.right.now.classes c.args.left.now.classes
     c.classes-others.ensures.relation.distinct c.classes-classes.ensures.relation.distinct)
 
 pub new-requires-clause-below : goal.new-requires-clause-below
 new-requires-clause-below g c =
-    let rest : c.as_slice-rest.result.now ≡ without c.args.right.now.classes c.args.left.now.classes =
-    chosen_is without c.args.right.now.classes c.args.left.now.classes _ _ _ _
-    c.classes-others.ensures.classes c.classes-classes.ensures.classes c.in_ok-rest.ensures
-    c.as_slice-rest.ensures in
-    let items : c.in_ok-appended.field-0.items ≡ c.args.left.now.classes
-    ++ without c.args.right.now.classes c.args.left.now.classes =
-    c.in_ok-appended.ensures ∙ ap (λ l. l ++ c.as_slice-rest.result.now) c.classes-classes.ensures.classes
-    ∙ ap (λ r. c.args.left.now.classes ++ r) rest in
+    let items = joined_is c.args.right.now.classes c.args.left.now.classes _ _ _ c.as_slice-rest.result.now
+    c.in_ok-appended.field-0.items c.classes-others.ensures.classes c.classes-classes.ensures.classes
+    c.in_ok-rest.ensures c.as_slice-rest.ensures c.in_ok-appended.ensures in
     subst (All (λ c. c < 64)) (sym items)
     (joined_below c.args.right.now.classes c.args.left.now.classes c.classes-others.ensures.relation.below
     c.classes-classes.ensures.relation.below)
@@ -154,14 +143,9 @@ new-requires-clause-rows g c =
 
 pub returns-clause-classes : goal.returns-clause-classes
 returns-clause-classes g c =
-    let rest : c.as_slice-rest.result.now ≡ without c.args.right.now.classes c.args.left.now.classes =
-    chosen_is without c.args.right.now.classes c.args.left.now.classes _ _ _ _
-    c.classes-others.ensures.classes c.classes-classes.ensures.classes c.in_ok-rest.ensures
-    c.as_slice-rest.ensures in
-    let items : c.in_ok-appended.field-0.items ≡ c.args.left.now.classes
-    ++ without c.args.right.now.classes c.args.left.now.classes =
-    c.in_ok-appended.ensures ∙ ap (λ l. l ++ c.as_slice-rest.result.now) c.classes-classes.ensures.classes
-    ∙ ap (λ r. c.args.left.now.classes ++ r) rest in
+    let items = joined_is c.args.right.now.classes c.args.left.now.classes _ _ _ c.as_slice-rest.result.now
+    c.in_ok-appended.field-0.items c.classes-others.ensures.classes c.classes-classes.ensures.classes
+    c.in_ok-rest.ensures c.as_slice-rest.ensures c.in_ok-appended.ensures in
     ap (λ (r : ClassRows). r.classes) c.new.ensures ∙ items
 
 pub returns-clause-rows : goal.returns-clause-rows
