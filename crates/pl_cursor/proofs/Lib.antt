@@ -1,5 +1,3 @@
--- for the crates above: filters that keep no member of a list, or all
-pub mod Filters
 -- parts of a list
 mod Ranges
 -- the answers of stages: that they are just the chains of rows, what they begin with, how long they are, and

@@ -3,7 +3,8 @@
 use Rattle.std.proofs.Common.{◌≡◌, ◌+◌, ◌<◌, ◌≤◌, ◌&&◌, ℕ, suc, Bool, true, false, not, cond, List, [], ◌∷◌}
 use Rattle.std.proofs.Common.{◌++◌, length, take, drop, filter, slice_get, slice_range, slice_set, Some}
 use Rattle.std.proofs.Common.{Contains, refl, sym, ap, ◌∙◌, subst, inl, inr, arith, append_assoc}
-use Rattle.std.proofs.lemmas.Bool.{cases_Bool, cases_lt, false≢true}
+use Rattle.std.specs.Bool.{OnTrue, OnFalse}
+use Rattle.std.proofs.lemmas.Bool.{cases_Bool, cases_lt, OnTrue_at, OnFalse_at}
 use Rattle.std.proofs.lemmas.List.{drop_more, drop_all, drop_at, take-take, get_or-set_same, get_or-set_other}
 use Rattle.std.proofs.lemmas.List.{append-nil, length-take-le}
 use Rattle.pl_rows.specs.Rows.{is_below}
@@ -282,51 +283,35 @@ sought_of stage width brought w start arity answer key tuple rows from to at up 
       high = high;
     }
 
--- the row at the place is the tuple's
-pub placed_yes : (stages : List Stage) (width t brought : ℕ) (answer prefix key : List ℕ)
-    (rows : List (List ℕ)) (from to at : ℕ) →
+-- what is past the place: the rows behind it, without its own where that is the tuple's
+pub placed : (stages : List Stage) (width t brought : ℕ) (answer prefix key : List ℕ)
+    (rows : List (List ℕ)) (from to at : ℕ) (found : Bool) (place : Place) →
     IsStage (stage_at stages t) (stage_at stages t).from brought
     → AreStages (drop (t + 1) stages) ((stage_at stages t).from + brought) width →
     IsLookedUp (stage_at stages t) answer key from to
     → IsSought (stage_at stages t) brought (take width answer) prefix from to at
-    → (stage_at stages t).rows ≡ rows →
-    (at < to) × (slice_get rows at ≡ Some prefix) → IsPlaced stages width t answer
-    (record { frame = record { at = at + 1; to = to }; found = true })
-placed_yes stages width t brought answer prefix key rows from to at kind rest up sought r (l, h) = record {
-  from = from;
-  at = at;
-  brought = brought;
-  prefix = prefix;
-  kind = kind;
-  rest = rest;
-  rows = up.rows;
-  sought = sought;
-  yes = λ y. (l, ap (λ rs. slice_get rs at) r ∙ h, refl);
-  no = λ n. absurd (false≢true (sym n));
-}
-
--- it is another, or there is none
-pub placed_no : (stages : List Stage) (width t brought : ℕ) (answer prefix key : List ℕ)
-    (rows : List (List ℕ)) (from to at : ℕ) →
-    IsStage (stage_at stages t) (stage_at stages t).from brought
-    → AreStages (drop (t + 1) stages) ((stage_at stages t).from + brought) width →
-    IsLookedUp (stage_at stages t) answer key from to
-    → IsSought (stage_at stages t) brought (take width answer) prefix from to at
-    → (stage_at stages t).rows ≡ rows →
-    ((row : List ℕ) → at < to → slice_get rows at ≡ Some row → row ≡ prefix → ⊥)
-    → IsPlaced stages width t answer (record { frame = record { at = at; to = to }; found = false })
-placed_no stages width t brought answer prefix key rows from to at kind rest up sought r apart = record {
-  from = from;
-  at = at;
-  brought = brought;
-  prefix = prefix;
-  kind = kind;
-  rest = rest;
-  rows = up.rows;
-  sought = sought;
-  yes = λ y. absurd (false≢true y);
-  no = λ n. (refl, λ row l h. apart row l (ap (λ rs. slice_get rs at) (sym r) ∙ h));
-}
+    → (stage_at stages t).rows ≡ rows → OnTrue found ((at < to) × (slice_get rows at ≡ Some prefix))
+    → OnFalse found ((row : List ℕ) → at < to → slice_get rows at ≡ Some row → row ≡ prefix → ⊥)
+    → place ≡ record { frame = record { at = cond found (at + 1) at; to = to }; found = found }
+    → IsPlaced stages width t answer place
+placed stages width t brought answer prefix key rows from to at found place kind rest up sought r there apart
+    e =
+    subst (IsPlaced stages width t answer) (sym e) (record {
+      from = from;
+      at = at;
+      brought = brought;
+      prefix = prefix;
+      kind = kind;
+      rest = rest;
+      rows = up.rows;
+      sought = sought;
+      yes = λ y. (let (l, h) = OnTrue_at y there in
+          (l, ap (λ rs. slice_get rs at) r ∙ h, ap (λ b. cond b (at + 1) at) y));
+      no = λ n. (
+        ap (λ b. cond b (at + 1) at) n,
+        λ row l h. OnFalse_at n apart row l (ap (λ rs. slice_get rs at) (sym r) ∙ h),
+      );
+    })
 
 -- ---- what is left past a tuple
 

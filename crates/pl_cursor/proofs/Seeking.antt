@@ -15,7 +15,7 @@ use Rattle.std.proofs.lemmas.List.Elements.{filter-append}
 use Rattle.std.proofs.lemmas.Map.Keys.{Less-from_sorted}
 use Rattle.std.proofs.lemmas.Map.Lookups.{exact_bytes}
 use Rattle.std.proofs.lemmas.Option.{slice_get_within, get_or_from_slice_get, slice_get-get_or}
-use Rattle.pl_cursor.proofs.Filters.{filter_none, filter_whole}
+use Rattle.pl_reduce.proofs.Filters.{filter_none, filter_whole}
 use Rattle.pl_cursor.proofs.Ranges.{range_holds, range_place, range_split}
 use Rattle.pl_rows.specs.Rows.{row_cmp, is_below}
 use Rattle.pl_rows.proofs.Canonical.{Contains-cons_first, Contains-cons_rest}

@@ -16,7 +16,7 @@ use Rattle.pl_cursor.specs.Stages.{stages_of}
 use Rattle.pl_cursor.specs.Cursor.{AreAnswersPast}
 use Rattle.pl_cursor.specs.Kept.{NeverEnds, IsFrame, IsEntered, IsPosition}
 use Rattle.pl_cursor.proofs.Ascent.{ascending}
-use Rattle.pl_cursor.proofs.Filters.{filter_whole}
+use Rattle.pl_reduce.proofs.Filters.{filter_whole}
 use Rattle.pl_cursor.proofs.Links.{IsFilled, stages_laid, never_ends, answers_of}
 
 -- ---- the answers past something

@@ -1,7 +1,7 @@
 //! The place from which the answers past a tuple stand.
 
 ghost use Rattle.std.specs.Prelude.{◌≡◌, ◌+◌, ◌*◌, ◌≤◌, ◌<◌, [], List, ℕ, length, take, slice_get};
-ghost use Rattle.std.specs.Prelude.{slice_range, Some, IsTrue};
+ghost use Rattle.std.specs.Prelude.{slice_range, cond, Some, IsTrue};
 ghost use Rattle.std.specs.Bool.{OnTrue, OnFalse};
 ghost use Rattle.std.specs.List.{list_any};
 ghost use Rattle.pl_rows.specs.Rows.{begins_with, is_below};
@@ -100,15 +100,24 @@ fn place_of<L: Ledger>(
     let table = reduced.table(stop.node);
     let at = first_in(table, prefix, range, steps);
     let to = range.to;
-    if has_at(table, prefix, at, to, steps) {
+    let found = has_at(table, prefix, at, to, steps);
+    rows_past(at, to, found)
+}
+
+/// The rows from a place on, without the one at the place where that is found.
+fn rows_past(at: usize, to: usize, found: bool) -> Place
+    requires { OnTrue found (at < to) }
+    ensures { result ≡ record { frame = record { at = cond found (at + 1) at; to = to }; found = found } }
+{
+    if found {
         return Place {
             frame: Frame { at: at + 1, to },
-            found: true,
+            found,
         };
     }
     Place {
         frame: Frame { at, to },
-        found: false,
+        found,
     }
 }
 

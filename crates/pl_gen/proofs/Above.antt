@@ -26,7 +26,7 @@ use Rattle.pl_normal.proofs.Listing.{row_rest, row_less, order_at, ties_same, fr
 use Rattle.pl_cursor.specs.Cursor.{is_past}
 use Rattle.pl_gen.specs.Walks.{is_above}
 use Rattle.pl_gen.specs.SchemaSteps.{applicable_of, step_at, class_key}
-use Rattle.pl_cursor.proofs.Filters.{filter_none, filter_whole}
+use Rattle.pl_reduce.proofs.Filters.{filter_none, filter_whole}
 use Rattle.pl_gen.proofs.Blocks.{filter_agree, filter-map, filter-flat_map}
 use Rattle.pl_gen.proofs.Blocks.{blocks_agree, blocks_none, range_split, range_from}
 use Rattle.pl_gen.proofs.SchemaRows.{steps_come_by_schemas, block_number, assigned_row}

@@ -30,7 +30,7 @@ use Rattle.pl_normal.specs.Queries.{is_join_answer}
 use Rattle.pl_gen.specs.SchemaSteps.{applicable_of, step_at, passes_late, AreRowsOf, class_key}
 use Rattle.pl_gen.specs.Walks.{PreparedState, state_of_prepared, is_above, steps_in, steps_above}
 use Rattle.pl_gen.proofs.Asking.{keeps_static}
-use Rattle.pl_cursor.proofs.Filters.{filter_none}
+use Rattle.pl_reduce.proofs.Filters.{filter_none}
 use Rattle.pl_gen.proofs.SchemaRows.{rows_are_steps, late_filters_are_last, false_guards_stop}
 use Rattle.pl_gen.proofs.SchemaRows.{no_edge_is_one_step, no_class, row_long, step_at-is}
 use Rattle.pl_gen.proofs.SchemaRows.{steps_come_by_schemas}

@@ -25,6 +25,7 @@ use Rattle.pl_reduce.specs.Nodes.{Node, node_at, key_classes, new_classes}
 use Rattle.pl_reduce.specs.Plan.{core_order, edge_holds, edge_order, AreColumns}
 use Rattle.pl_reduce.specs.Walk.{walk_of, classes_along}
 use Rattle.pl_reduce.proofs.Lists.{all_members, Contains-reverse}
+use Rattle.pl_reduce.proofs.Filters.{filter_none, filter_whole}
 
 -- what `IsReduced` says of the nodes' columns, at the class order of a plan
 pub record AreLaid (plan : Removal) (nodes : List Node) : Type 0 where
@@ -37,17 +38,7 @@ pub record AreLaid (plan : Removal) (nodes : List Node) : Type 0 where
 
 -- ---- filters of lists of classes
 
--- a filter that each member passes, one that none does, and two that each member passes alike
-filter_every : (p : ℕ → Bool) (xs : List ℕ) → ((c : ℕ) → Contains xs c → p c ≡ true) → filter p xs ≡ xs
-filter_every p [] all = refl
-filter_every p (x ∷ xs) all =
-    rw (all x (Contains-cons_first x xs), filter_every p xs (λ c h. all c (Contains-cons_rest x xs c h))) refl
-
-filter_none : (p : ℕ → Bool) (xs : List ℕ) → ((c : ℕ) → Contains xs c → p c ≡ false) → filter p xs ≡ []
-filter_none p [] none = refl
-filter_none p (x ∷ xs) none = rw (none x (Contains-cons_first x xs))
-    (filter_none p xs (λ c h. none c (Contains-cons_rest x xs c h)))
-
+-- two filters that each member passes alike
 filter_same : (p q : ℕ → Bool) (xs : List ℕ) → ((c : ℕ) → Contains xs c → p c ≡ q c)
     → filter p xs ≡ filter q xs
 filter_same p q [] same = refl
@@ -68,7 +59,7 @@ own_members p xs = filter_same p (has_class (filter p xs)) xs (λ c h. elim (cas
 front_members : (front rest : List ℕ) → ((c : ℕ) → Contains rest c → Contains front c → ⊥)
     → front ≡ filter (has_class front) (front ++ rest)
 front_members front rest apart =
-    let every : filter (has_class front) front ≡ front = filter_every (has_class front) front
+    let every : filter (has_class front) front ≡ front = filter_whole (has_class front) front
     (λ c h. (has_class-Contains front c).1 h) in
     let none : filter (has_class front) rest ≡ [] = filter_none (has_class front) rest
     (λ c h. false_from_ne_true (has_class front c) (λ t. apart c h ((has_class-Contains front c).0 t))) in
@@ -85,7 +76,7 @@ kept_parts p front middle back every none =
     (filter-append p middle back
     ∙ ap (λ zs. filter p middle ++ zs) (filter_none p back none)
     ∙ append-nil (filter p middle)
-    ∙ filter_every p middle every)
+    ∙ filter_whole p middle every)
 
 -- a filter of a filtered front and a middle that keeps the front alone
 shared_part : (p q : ℕ → Bool) (front middle : List ℕ)
@@ -95,7 +86,7 @@ shared_part p q front middle every none =
     filter-append q (filter p front) middle
     ∙ ap (λ zs. filter q (filter p front) ++ zs) (filter_none q middle none)
     ∙ append-nil (filter q (filter p front))
-    ∙ filter_every q (filter p front)
+    ∙ filter_whole q (filter p front)
     (λ c h. let kept = Contains-from_filter p front c h in every c kept.0 kept.1)
 
 -- ---- the tests for the classes of an edge

@@ -110,3 +110,23 @@ pub most_of_up : (given : List ClassRows) (parents : List ℕ) (j last start ste
 most_of_up given parents j last start steps are many l most =
     let up = up_most given parents j last l in
     most_of_all given parents last start steps are many (omega (arith, most, up))
+
+-- by the count of the relations: after a turn of the pass to the root
+pub turn_cost : (given old : List ClassRows) (parents : List ℕ) (j last many start before after : ℕ)
+    → AreParents parents given → length given ≡ many → many ≡ last + 1 → j < last → AreReduced given old
+    → before ≤ start + up_probes given parents j
+    → after ≤ before + 2 * rows_at old (slice_index parents (j + 1)) + rows_at old (j + 1)
+    → after ≤ start + 3 * (many - 1) * total_rows given
+turn_cost given old parents j last many start before after are e l low is so_far step =
+    subst (λ m. after ≤ start + 3 * (m - 1) * total_rows given) e
+    (most_of_up given parents (j + 1) last start after are (omega (arith, e, l)) (omega (arith, low))
+    (up_cost given old parents j start before after is so_far step))
+
+-- and after some turns of both passes
+pub turns_cost : (given : List ClassRows) (parents : List ℕ) (last many start after : ℕ)
+    → AreParents parents given → length given ≡ many → many ≡ last + 1
+    → after ≤ start + up_probes given parents last + down_probes given parents last
+    → after ≤ start + 3 * (many - 1) * total_rows given
+turns_cost given parents last many start after are e l most =
+    subst (λ m. after ≤ start + 3 * (m - 1) * total_rows given) e
+    (most_of_all given parents last start after are (omega (arith, e, l)) most)

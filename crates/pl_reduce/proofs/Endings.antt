@@ -1,17 +1,16 @@
 -- What the two public reductions know of their plan and of the run.
-use Rattle.std.proofs.Common.{◌≡◌, ◌↔◌, ◌^◌, ◌<◌, ℕ, List, [], ◌∷◌, Option, Some, length, map, slice_index}
+use Rattle.std.proofs.Common.{◌≡◌, ◌<◌, ℕ, List, [], ◌∷◌, Option, Some, length, map}
 use Rattle.std.proofs.Common.{All, Contains, refl, sym, ap, ◌∙◌, subst}
-use Rattle.pl_join.specs.Relation.{ClassRows, AreDistinct}
+use Rattle.pl_join.specs.Relation.{ClassRows}
 use Rattle.pl_join.specs.Keyed.{KeyedRows}
 use Rattle.pl_hyper.specs.declared.ear.Ear.{Ear}
-use Rattle.pl_hyper.specs.Ears.{Removal, IsRemoval, IsWalkable}
-use Rattle.pl_hyper.specs.ClassOrder.{class_order, IsClass}
+use Rattle.pl_hyper.specs.Ears.{Removal}
+use Rattle.pl_hyper.specs.ClassOrder.{class_order}
 use Rattle.pl_reduce.specs.declared.reduced.Stored.{Stored}
 use Rattle.pl_reduce.specs.Nodes.{ReducedJoin}
 use Rattle.pl_reduce.specs.Plan.{AreColumns, AreOverPlan}
-use Rattle.pl_reduce.specs.PlanNodes.{AreParentNodes}
 use Rattle.pl_reduce.specs.Passes.{AreParents}
-use Rattle.pl_reduce.specs.Recipes.{option_at, relations_with, AreFixed}
+use Rattle.pl_reduce.specs.Recipes.{FixedJoin, option_at, relations_with, AreFixed, AreGiven}
 use Rattle.pl_reduce.specs.Lent.{lent_of, nodes_with, AreThere}
 use Rattle.pl_reduce.specs.Arranged.{AreArrangedBelow}
 use Rattle.pl_reduce.specs.Reduced.{IsReduced, IsReductionOf}
@@ -19,21 +18,11 @@ use Rattle.pl_reduce.specs.Kept.{node_of, join_of, IsKept}
 use Rattle.pl_reduce.specs.Layout.{LayoutView, IsLayoutFor}
 use Rattle.pl_reduce.specs.Runs.{IsRun}
 use Rattle.pl_reduce.specs.Fixing.{AreLentOf, AreFixedPairs, AreTurnedOf, IsPlan, IsRecipe}
-use Rattle.pl_reduce.proofs.Beginnings.{AreRelationsOf, all_relations, none_lent, there}
+use Rattle.pl_reduce.proofs.Beginnings.{AreRelationsOf, all_relations, given_relations, none_lent, there}
 use Rattle.pl_reduce.proofs.Keyings.{are_lent}
 use Rattle.pl_reduce.proofs.Laying.{layout_is}
 use Rattle.pl_reduce.proofs.Wholes.{bare, run_held, run_parents, run_kept, run_columns, run_reduction}
 use Rattle.pl_reduce.proofs.Wholes.{arranged_moved}
-
-pub recipe_is : (plan : Removal) (edges : List ℕ) (ears : List Ear) (fixed : List (Option ClassRows))
-    (classes parents : List ℕ) (lent turned : List (Option KeyedRows)) → edges ≡ plan.edges
-    → ears ≡ plan.removed → IsRecipe (record { edges = edges; removed = ears; core = plan.core }) fixed
-    classes parents lent turned → IsRecipe plan fixed classes parents lent turned
-recipe_is plan edges ears fixed classes parents lent turned ee er is =
-    subst (λ es. IsRecipe (record { edges = es; removed = plan.removed; core = plan.core }) fixed classes
-    parents lent turned) ee
-    (subst (λ xs. IsRecipe (record { edges = edges; removed = xs; core = plan.core }) fixed classes parents
-    lent turned) er is)
 
 pub run_moved : (plan : Removal) (edges : List ℕ) (ears : List Ear) (classes : List ℕ)
     (lent : List (Option KeyedRows)) (own given : List (Option ClassRows)) (stored : List Stored)
@@ -55,6 +44,26 @@ pub record IsDone (plan : Removal) (fixed given : List (Option ClassRows)) (lent
   pub plan_is : IsPlan plan classes parents
   pub relations : AreRelationsOf plan fixed given
   pub lent_are : AreLentOf plan fixed lent
+
+-- that it is known where all relations are given
+pub given_done : (plan : Removal) (classes parents : List ℕ) (root : ClassRows) (rest : List ClassRows)
+    → AreOverPlan plan root rest → IsPlan plan classes parents
+    → IsDone plan [] (map Some (root ∷ rest)) [] classes parents
+given_done plan classes parents root rest over known = record {
+  plan_is = known;
+  relations = all_relations plan root rest over;
+  lent_are = none_lent plan;
+}
+
+-- and where some are fixed
+pub fixed_done : (join : FixedJoin) (given : List (Option ClassRows)) (classes parents : List ℕ)
+    (lent turned : List (Option KeyedRows)) → IsRecipe join.plan join.fixed classes parents lent turned
+    → AreGiven join given → IsDone join.plan join.fixed given lent classes parents
+fixed_done join given classes parents lent turned recipe are = record {
+  plan_is = recipe.plan_is;
+  relations = given_relations join given recipe.are_fixed are;
+  lent_are = recipe.lent_are;
+}
 
 pub done_held : (plan : Removal) (fixed given own : List (Option ClassRows)) (lent : List (Option KeyedRows))
     (classes parents slice : List ℕ) (k : ℕ) (r : ClassRows) → IsDone plan fixed given lent classes parents
@@ -114,22 +123,6 @@ done_reduction plan fixed given lent classes parents items stored join is e ei r
     (sym (e ∙ ap (λ os. record { classes = os; nodes = map node_of stored }) ei))
     (run_reduction plan fixed given lent stored is.relations is.lent_are run)
 
--- what the calls on the plan say of it
-pub plan_known : (plan : Removal) (edges items parents : List ℕ) → IsRemoval plan → IsWalkable plan
-    → edges ≡ plan.edges → ((e : ℕ) → slice_index edges e < 2 ^ 64) → items ≡ class_order plan
-    → AreDistinct items → All (λ c. c < 64) items → ((c : ℕ) → Contains items c ↔ IsClass plan.edges c)
-    → AreParentNodes plan parents → IsPlan plan (class_order plan) parents
-plan_known plan edges items parents removal walk ee words eo once below classes are = record {
-  removal = removal;
-  walkable = walk;
-  words = subst (λ es. (e : ℕ) → slice_index es e < 2 ^ 64) ee words;
-  order = refl;
-  once = subst AreDistinct eo once;
-  below = subst (All (λ c. c < 64)) eo below;
-  are_classes = subst (λ os. (c : ℕ) → Contains os c ↔ IsClass plan.edges c) eo classes;
-  parents_are = are;
-}
-
 pub given_there : (plan : Removal) (own : List (Option ClassRows)) (root : ClassRows) (rest : List ClassRows)
     → AreOverPlan plan root rest → own ≡ map Some (root ∷ rest) → AreThere [] own
 given_there plan own root rest over e = subst (AreThere []) (sym e)
@@ -147,22 +140,21 @@ layout_moved plan edges ears core layout ee er ec is =
 pub recipe_made : (plan : Removal) (edges : List ℕ) (ears : List Ear)
     (core classes parents parent_slice fixed_parents : List ℕ) (fixed : List (Option ClassRows))
     (lent lent_slice turned : List (Option KeyedRows)) → edges ≡ plan.edges → ears ≡ plan.removed
-    → core ≡ plan.core → classes ≡ class_order plan → parent_slice ≡ parents → fixed_parents ≡ parents
-    → lent_slice ≡ lent → AreFixed plan fixed → IsPlan plan (class_order plan) parents
+    → core ≡ plan.core → parent_slice ≡ parents → fixed_parents ≡ parents
+    → lent_slice ≡ lent → AreFixed plan fixed → IsPlan plan classes parents
     → AreLentOf plan fixed lent → AreFixedPairs fixed_parents (map lent_of lent)
     → AreTurnedOf parent_slice lent_slice turned
     → IsRecipe (record { edges = edges; removed = ears; core = core }) fixed classes parents lent turned
 recipe_made plan edges ears core classes parents parent_slice fixed_parents fixed lent lent_slice turned ee er
-    ec eo ep ef el are known lends pairs turns =
+    ec ep ef el are known lends pairs turns =
     subst (λ es. IsRecipe (record { edges = es; removed = ears; core = core }) fixed classes parents lent
     turned) (sym ee)
     (subst (λ xs. IsRecipe (record { edges = plan.edges; removed = xs; core = core }) fixed classes parents
     lent turned) (sym er)
     (subst (λ cs. IsRecipe (record { edges = plan.edges; removed = plan.removed; core = cs }) fixed classes
-    parents lent turned) (sym ec)
-    (subst (λ os. IsRecipe plan fixed os parents lent turned) (sym eo) made)))
+    parents lent turned) (sym ec) made))
   where
-    made : IsRecipe plan fixed (class_order plan) parents lent turned
+    made : IsRecipe plan fixed classes parents lent turned
     made = record {
       are_fixed = are;
       plan_is = known;

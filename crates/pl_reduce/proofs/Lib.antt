@@ -3,6 +3,8 @@ pub mod Walks
 -- and the places of classes, the nodes at the steps of a walk, and its stops
 pub mod Places
 pub mod Stopping
+-- filters that keep no member of a list, or all
+pub mod Filters
 -- for the functions of this crate
 mod PlanLaws
 mod Lists

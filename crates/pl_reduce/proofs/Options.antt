@@ -1,5 +1,5 @@
 -- Lists of relations that are there or not, and the relations of a join that they make together.
-use Rattle.std.proofs.Common.{◌≡◌, ◌+◌, ◌-◌, ◌*◌, ◌<◌, ◌≤◌, ℕ, zero, suc, List, [], ◌∷◌, Option, None, Some}
+use Rattle.std.proofs.Common.{◌≡◌, ◌+◌, ◌*◌, ◌<◌, ◌≤◌, ℕ, zero, suc, List, [], ◌∷◌, Option, None, Some}
 use Rattle.std.proofs.Common.{length, map, get_or, set, refl, sym, ap, ◌∙◌, subst, inl, inr, arith}
 use Rattle.std.proofs.lemmas.List.{get_or_default, get_or-set_same, get_or-set_other, length-set}
 use Rattle.std.proofs.lemmas.List.Sums.{sum_by-cons}
@@ -208,12 +208,6 @@ pair_cost lent own slice i j start after e li lj l =
     subst (λ xs. after ≤ start + 2 * length (node_with lent xs i).rows + length
     (node_with lent xs j).rows) e l in
     omega (arith, m, with_rows lent own i li, with_rows lent own j lj)
-
--- the bound of the passes, by the nodes' number
-pub passes_most : (nodes : List ClassRows) (n start after : ℕ) → length nodes ≡ n
-    → after ≤ start + 3 * (length nodes - 1) * total_rows nodes
-    → after ≤ start + 3 * (n - 1) * total_rows nodes
-passes_most nodes n start after e l = subst (λ m. after ≤ start + 3 * (m - 1) * total_rows nodes) e l
 
 pub rows_none : (lent : List (Option KeyedRows)) (own slice : List (Option ClassRows)) (k : ℕ) → slice ≡ own
     → k < length own → (node_with lent slice k).rows ≡ [] → (relation_at (nodes_with lent own) k).rows ≡ []

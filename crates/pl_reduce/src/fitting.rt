@@ -154,12 +154,11 @@ fn are_over_ears(rest: &[Relation], plan: &EarPlan) -> bool
         × ((i c : ℕ) (d : Ear) → i < length rest.now
         → Contains (relation_at rest.now i).classes c ↔ Holds plan.now.edges (ear_at plan.now i d).edge c)) }
 {
-    let ears = plan.removed();
-    if rest.len() != ears.len() {
+    if rest.len() != plan.removed().len() {
         return false;
     }
-    for (i, relation) in rest.iter().enumerate() {
-        if !is_over(relation.classes(), plan.edges()[ears[i].edge as usize]) {
+    for (ear, relation) in rest.iter().enumerate() {
+        if !is_over_ear(plan, relation, ear) {
             return false;
         }
     }

@@ -14,6 +14,7 @@ mod layout;
 mod pairs;
 mod parents;
 mod passes;
+mod planned;
 mod recipe;
 mod reduced;
 mod reducer;

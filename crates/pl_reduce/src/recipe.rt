@@ -6,9 +6,7 @@ ghost use Rattle.pl_reduce.specs.Recipes.{option_at, AreFixed, AreForOthers};
 
 use crate::fixing::{fix_all, turn_all};
 use crate::layout::Layout;
-use crate::parents::parent_nodes;
-use crate::reducer::edges_are_words;
-use pl_hyper::laws::plan_is_a_removal;
+use crate::planned::planned;
 use pl_hyper::{Ear, EarPlan};
 use pl_join::{Keyed, Relation};
 use pl_steps::Steps;
@@ -73,10 +71,7 @@ impl Recipe {
         ensures recipe { IfOk result (λ r. r ≡ record { plan = plan.now; fixed = fixed.items }) }
         ensures rise { steps.old ≤ steps.new }
     {
-        edges_are_words(plan.edges());
-        plan_is_a_removal(plan);
-        let layout = Layout::of(alloc, plan)?;
-        let parents = parent_nodes(alloc, plan)?;
+        let (layout, parents) = planned(alloc, plan)?;
         let (lent, origins) = fix_all(alloc, plan, fixed, layout.classes(), &parents, steps)?;
         let turned = turn_all(alloc, plan, &lent, &parents, steps)?;
         let edges = Vec::from_slice(alloc, plan.edges())?;
@@ -135,9 +130,8 @@ impl Recipe {
 
     /// What a reduction with it reads.
     pub(crate) fn shape(&self) -> Shape<'_>
-        ensures recipe { IsRecipe (record
-            { edges = result.edges.now; removed = result.ears.now; core = self.now.plan.core })
-            self.now.fixed result.classes.now result.parents.now result.lent.now result.turned.now }
+        ensures recipe { IsRecipe self.now.plan self.now.fixed result.classes.now result.parents.now
+            result.lent.now result.turned.now }
         ensures edges { result.edges.now ≡ self.now.plan.edges }
         ensures ears { result.ears.now ≡ self.now.plan.removed }
         ensures layout { IsLayoutFor self.now.plan result.layout.now }

@@ -1,7 +1,6 @@
 //! The full reducer.
 
-ghost use Rattle.std.specs.Prelude.{◌≡◌, ◌+◌, ◌-◌, ◌*◌, ◌<◌, ◌≤◌, ◌^◌, ◌∷◌, [], ℕ, Some, length, map};
-ghost use Rattle.std.specs.Prelude.{slice_index};
+ghost use Rattle.std.specs.Prelude.{◌≡◌, ◌+◌, ◌-◌, ◌*◌, ◌<◌, ◌≤◌, ◌∷◌, [], ℕ, Some, length, map};
 ghost use Rattle.std.specs.Prelude.{All, Contains, IfOk};
 ghost use Rattle.pl_join.specs.Relation.{ClassRows, AreDistinct};
 ghost use Rattle.pl_join.specs.Keyed.{KeyedRows};
@@ -15,9 +14,8 @@ ghost use Rattle.pl_reduce.specs.Runs.{IsRun};
 ghost use Rattle.pl_reduce.specs.Reduced.{IsReductionOf};
 
 use crate::arranging::arrange_all;
-use crate::layout::Layout;
-use crate::parents::parent_nodes;
 use crate::passes::reduce_all;
+use crate::planned::planned;
 use crate::recipe::Recipe;
 use crate::reduced::{Reduced, Stored, StoredLayout};
 use crate::storing::store_all;
@@ -53,17 +51,12 @@ impl<'r> Reduced<'r> {
             + (3 * (length rest.items + 1) - 1) * total_rows (root ∷ rest.items) }
         ensures rise { steps.old ≤ steps.new }
     {
-        edges_are_words(plan.edges());
-        let edges = plan.edges();
-        // The facts of a removal are clauses of its parts.
-        let ears = plan.removed();
-        let layout = Layout::of(alloc, plan)?;
-        let parents = parent_nodes(alloc, plan)?;
+        let (layout, parents) = planned(alloc, plan)?;
         let own = given_all(alloc, root, rest)?;
         let nodes = reduce_nodes(
             alloc,
-            edges,
-            ears,
+            plan.edges(),
+            plan.removed(),
             layout.classes(),
             &parents,
             &[],
@@ -166,8 +159,3 @@ pub fn reduce_nodes<'r, L: Ledger>(
     reduce_all(alloc, lent, turned, &mut own, parents, steps)?;
     store_all(alloc, lent, own, edges, ears, steps)
 }
-
-/// A law: an edge has no class beyond the bits of its number.
-pub fn edges_are_words(edges: &[u64])
-    ensures { (e : ℕ) → slice_index edges.now e < 2 ^ 64 }
-{}

@@ -4,11 +4,11 @@ use Rattle.std.proofs.lemmas.Result.{on_ok_weaker}
 use Rattle.pl_join.specs.Relation.{ClassRows}
 use Rattle.pl_reduce.specs.Plan.{relation_at}
 use Rattle.pl_reduce.specs.Lent.{nodes_with, lent_of}
-use Rattle.pl_reduce.proofs.Options.{many_with, with_at, passes_most, rows_none}
+use Rattle.pl_reduce.proofs.Options.{many_with, with_at, rows_none}
 use Rattle.pl_reduce.specs.Passes.{IsPassedUp, up_probes}
 use Rattle.pl_reduce.proofs.PassLemmas.{none_reduced, up_begins, up_at, down_begins, down_at}
 use Rattle.pl_reduce.proofs.Emptied.{none_held, emptied_down}
-use Rattle.pl_reduce.proofs.Costs.{up_cost, down_cost, most_of_up, most_of_all}
+use Rattle.pl_reduce.proofs.Costs.{up_cost, down_cost, turn_cost, turns_cost}
 use Rattle.pl_reduce.proofs.passes.reduce_all.Goals as goal
 
 pub loop-before-init : goal.loop-before-init
@@ -22,22 +22,11 @@ loop-before-init g c = record {
 
 pub returns-in_err-reduce_parent-clause-cost : goal.returns-in_err-reduce_parent-clause-cost
 returns-in_err-reduce_parent-clause-cost g c =
-    let many : length (nodes_with c.args.lent.now c.args.own.now.items) ≡ c.len-last.result - 1 + 1 =
-    omega (
-      arith,
-      c.len-last.ensures,
-      c.requires.filled,
-      many_with (map lent_of c.args.lent.now) c.args.own.now.items,
-    ) in
-    passes_most (nodes_with c.args.lent.now c.args.own.now.items) (length c.args.own.now.items) _ _
+    turn_cost _ (nodes_with c.args.lent.now c.loop-before.own.items) c.args.parents.now c.loop-before.before
+    (c.len-last.result - 1) _ _ c.loop-before.steps _ c.requires.parents
     (many_with (map lent_of c.args.lent.now) c.args.own.now.items)
-    (most_of_up (nodes_with c.args.lent.now c.args.own.now.items) c.args.parents.now
-    (c.loop-before.before + 1) (c.len-last.result - 1) _ _ c.requires.parents many
-    (omega (arith, c.loop-before-test.true))
-    (up_cost (nodes_with c.args.lent.now c.args.own.now.items)
-    (nodes_with c.args.lent.now c.loop-before.own.items) c.args.parents.now c.loop-before.before _
-    c.loop-before.steps _ c.loop-before.invariant.passed.reduced c.loop-before.invariant.cost
-    c.reduce_parent.ensures.cost))
+    (omega (arith, c.len-last.ensures, c.requires.filled)) (omega (arith, c.loop-before-test.true))
+    c.loop-before.invariant.passed.reduced c.loop-before.invariant.cost c.reduce_parent.ensures.cost
 
 pub loop-before-preserved : goal.loop-before-preserved
 loop-before-preserved g c = record {
@@ -93,23 +82,15 @@ loop-done-init g c =
 
 pub returns-in_err-reduce_node-clause-cost : goal.returns-in_err-reduce_node-clause-cost
 returns-in_err-reduce_node-clause-cost g c =
-    let many : length (nodes_with c.args.lent.now c.args.own.now.items) ≡ c.len-last.result - 1 + 1 =
-    omega (
-      arith,
-      c.len-last.ensures,
-      c.requires.filled,
-      many_with (map lent_of c.args.lent.now) c.args.own.now.items,
-    ) in
     let more = down_cost (nodes_with c.args.lent.now c.args.own.now.items)
     (nodes_with c.args.lent.now c.loop-done.own.items) c.args.parents.now
     (c.len-last.result - 1 - (c.loop-done.done + 1)) (c.len-last.result - 1 - c.loop-done.done) _
     c.loop-done.steps _
     (omega (arith, c.loop-done-test.true)) c.loop-done.invariant.passed.reduced c.loop-done.invariant.cost
     c.reduce_node.ensures.cost in
-    passes_most (nodes_with c.args.lent.now c.args.own.now.items) (length c.args.own.now.items) _ _
+    turns_cost _ c.args.parents.now (c.len-last.result - 1) _ _ _ c.requires.parents
     (many_with (map lent_of c.args.lent.now) c.args.own.now.items)
-    (most_of_all (nodes_with c.args.lent.now c.args.own.now.items) c.args.parents.now
-    (c.len-last.result - 1) _ _ c.requires.parents many (omega (arith, more)))
+    (omega (arith, c.len-last.ensures, c.requires.filled)) (omega (arith, more))
 
 pub loop-done-preserved : goal.loop-done-preserved
 loop-done-preserved g c =
@@ -140,17 +121,9 @@ loop-done-preserved g c =
 
 pub returns-clause-cost : goal.returns-clause-cost
 returns-clause-cost g c =
-    let many : length (nodes_with c.args.lent.now c.args.own.now.items) ≡ c.len-last.result - 1 + 1 =
-    omega (
-      arith,
-      c.len-last.ensures,
-      c.requires.filled,
-      many_with (map lent_of c.args.lent.now) c.args.own.now.items,
-    ) in
-    passes_most (nodes_with c.args.lent.now c.args.own.now.items) (length c.args.own.now.items) _ _
+    turns_cost _ c.args.parents.now (c.len-last.result - 1) _ _ _ c.requires.parents
     (many_with (map lent_of c.args.lent.now) c.args.own.now.items)
-    (most_of_all (nodes_with c.args.lent.now c.args.own.now.items) c.args.parents.now
-    (c.len-last.result - 1) _ _ c.requires.parents many (omega (arith, c.loop-done.invariant.cost)))
+    (omega (arith, c.len-last.ensures, c.requires.filled)) (omega (arith, c.loop-done.invariant.cost))
 
 pub returns-then-has_empty-clause-passed : goal.returns-then-has_empty-clause-passed
 returns-then-has_empty-clause-passed g c =
@@ -202,22 +175,11 @@ returns-then-is_empty_at-clause-passed g c =
 
 pub returns-then-is_empty_at-clause-cost : goal.returns-then-is_empty_at-clause-cost
 returns-then-is_empty_at-clause-cost g c =
-    let many : length (nodes_with c.args.lent.now c.args.own.now.items) ≡ c.len-last.result - 1 + 1 =
-    omega (
-      arith,
-      c.len-last.ensures,
-      c.requires.filled,
-      many_with (map lent_of c.args.lent.now) c.args.own.now.items,
-    ) in
-    passes_most (nodes_with c.args.lent.now c.args.own.now.items) (length c.args.own.now.items) _ _
+    turn_cost _ (nodes_with c.args.lent.now c.loop-before.own.items) c.args.parents.now c.loop-before.before
+    (c.len-last.result - 1) _ _ c.loop-before.steps _ c.requires.parents
     (many_with (map lent_of c.args.lent.now) c.args.own.now.items)
-    (most_of_up (nodes_with c.args.lent.now c.args.own.now.items) c.args.parents.now
-    (c.loop-before.before + 1) (c.len-last.result - 1) _ _ c.requires.parents many
-    (omega (arith, c.loop-before-test.true))
-    (up_cost (nodes_with c.args.lent.now c.args.own.now.items)
-    (nodes_with c.args.lent.now c.loop-before.own.items) c.args.parents.now c.loop-before.before _
-    c.loop-before.steps _ c.loop-before.invariant.passed.reduced c.loop-before.invariant.cost
-    c.reduce_parent.ensures.cost))
+    (omega (arith, c.len-last.ensures, c.requires.filled)) (omega (arith, c.loop-before-test.true))
+    c.loop-before.invariant.passed.reduced c.loop-before.invariant.cost c.reduce_parent.ensures.cost
 
 pub bounds-parents-node : goal.bounds-parents-node
 bounds-parents-node g c =
