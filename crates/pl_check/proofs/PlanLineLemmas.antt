@@ -162,16 +162,6 @@ step_of_line task lines step steps are =
     All-head (λ l. (s : Instance) → l ≡ line.Step s → IsStep task s) (line.Step step) []
     (subst (All (λ l. (s : Instance) → l ≡ line.Step s → IsStep task s)) are steps) step refl
 
--- a step has at most 64 arguments
-pub step_short : (task : Task) (step : Instance) → IsStep task step → length step.args ≤ 64
-step_short task step is =
-    let within = slice_get_within task.schemas step.schema is.schema is.found in
-    let few = task.schemas_ok.each step.schema is.schema within in
-    let same : is.schema ≡ get_or task.schemas step.schema is.schema =
-    cc (is.found, slice_get-get_or task.schemas step.schema is.schema within)
-    in
-    omega (arith, is.many, few.few_parameters, ap (λ (s : Schema). length s.parameters) same)
-
 -- no faults have no first one
 faultless : (faults : List Fault) → first faults ≡ None → faults ≡ []
 faultless [] h = refl

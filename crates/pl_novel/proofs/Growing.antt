@@ -10,7 +10,7 @@ use Rattle.pl_task.specs.declared.task.Task.{Task}
 use Rattle.pl_task.specs.States.{State}
 use Rattle.pl_registry.proofs.Lists.{Contains-map, Contains-map_cases}
 use Rattle.pl_novel.specs.AtomSets.{IsSetOf}
-use Rattle.pl_novel.specs.Noting.{HasNewSet, NotesState}
+use Rattle.pl_novel.specs.Noting.{Noted, HasNewSet, NotesState}
 use Rattle.pl_novel.specs.Keys.{key_at, with_all, one_set, set_by, noted_by, IsPairIn, IsKept, Extends}
 use Rattle.pl_novel.specs.Keys.{has_grown}
 use Rattle.pl_novel.proofs.Lists.{AreOnce, all_members, all_keep, all_once, all_extends, extends_by}
@@ -120,17 +120,19 @@ module _ (task : Task) (s : State) (width : ℕ) (old_keys old_pairs keys pairs 
   sets_stay set h = sets_kept width old_keys old_pairs keys pairs grows.more_pairs kept keys_extend
       grows.pairs_are set h
 
-  pub notes : NotesState task s (noted_by width old_keys old_pairs) (noted_by width keys pairs)
-  notes = record {
-    same_width = refl;
-    sets_are = λ set. (
-      λ h. sets_from set h,
-      λ h. elim h [
-        | inl before ↦ sets_stay set before
-        | inr now ↦ grows.all set now
-      ],
-    );
-  }
+  pub notes : (old : Noted) → noted_by width old_keys old_pairs ≡ old
+      → NotesState task s old (noted_by width keys pairs)
+  notes old is = subst (λ n. NotesState task s n (noted_by width keys pairs)) is
+      (record {
+        same_width = refl;
+        sets_are = λ set. (
+          λ h. sets_from set h,
+          λ h. elim h [
+            | inl before ↦ sets_stay set before
+            | inr now ↦ grows.all set now
+          ],
+        );
+      })
 
   -- a new key is a new set
   new_one : length old_keys < length keys → HasNewSet task (noted_by width old_keys old_pairs) s
@@ -194,10 +196,10 @@ module _ (task : Task) (s : State) (width : ℕ) (old_keys old_pairs keys pairs 
       (subst (λ ks. Contains (noted_by width ks pairs).sets h.set) same_keys_are
       (grows.all h.set h.of_state)))
 
-  pub answers : (grown : Bool) → grown ≡ has_grown (length old_keys) (length keys) (length old_pairs)
+  new_where_grown : (grown : Bool) → grown ≡ has_grown (length old_keys) (length keys) (length old_pairs)
       (length pairs) →
       IsTrue grown ↔ HasNewSet task (noted_by width old_keys old_pairs) s
-  answers grown is = (
+  new_where_grown grown is = (
     λ h. elim (cases_Bool (nat_lt (length old_keys) (length keys))) [
       | inl more ↦ new_one (less_from (length old_keys) (length keys) more)
       | inr not_so ↦ new_two
@@ -212,3 +214,9 @@ module _ (task : Task) (s : State) (width : ℕ) (old_keys old_pairs keys pairs 
           (not_less_from (length old_pairs) (length pairs) b) h))
     ],
   )
+
+  -- some set was new just where a count has grown
+  pub answers : (old : Noted) (grown : Bool) → noted_by width old_keys old_pairs ≡ old
+      → grown ≡ has_grown (length old_keys) (length keys) (length old_pairs) (length pairs) →
+      IsTrue grown ↔ HasNewSet task old s
+  answers old grown seen is = subst (λ n. IsTrue grown ↔ HasNewSet task n s) seen (new_where_grown grown is)

@@ -25,7 +25,7 @@ use Rattle.pl_state.specs.StateOf.{is_fluent_in}
 use Rattle.pl_registry.proofs.Lists.{Contains-nil, Contains-cons_cases, Contains-cons_first}
 use Rattle.pl_registry.proofs.Lists.{Contains-cons_rest, Contains-map, Contains-map_cases}
 use Rattle.pl_novel.specs.AtomSets.{key_of, IsSetOf}
-use Rattle.pl_novel.specs.Noting.{Noted, NotesState, AreAllNoted, FollowsNoted}
+use Rattle.pl_novel.specs.Noting.{Noted, FollowsNoted}
 use Rattle.pl_novel.specs.Keys.{atom_by, key_at, key_under, keys_added, keys_added_by, pair_of, pairs_around}
 use Rattle.pl_novel.specs.Keys.{pairs_with, with_all, one_set, two_set, set_by, noted_by, IsPairIn, IsKept}
 use Rattle.pl_novel.specs.Keys.{Extends, AreNumbered, AreStateNumbers, NotesSingles, NotesDoubles, NotesAdded}
@@ -178,12 +178,6 @@ module _ (keys : List (List ℕ)) where
 and_first : (a b : Bool) → (a && b) ≡ true → a ≡ true
 and_first true b h = refl
 and_first false b h = absurd (false≢true h)
-
--- where a state was noted, all its sets are
-pub all_noted : (task : Task) (s : State) (old new : Noted) → NotesState task s old new
-    → AreAllNoted task new s
-all_noted task s old new notes set is = (notes.sets_are set).1
-    (inr (subst (λ w. IsSetOf task w s set) notes.same_width is))
 
 -- the pairs of numbers that were lent
 pub notes_doubles : (task : Task) (s : State) (width : ℕ)
@@ -502,7 +496,17 @@ module _ (task : Task) (s : State) (step : Instance) (width : ℕ)
     }
 
   -- all sets of the state are noted, and no others
-  pub step_grows : NotesAdded task s width added old_keys old_pairs keys pairs
+  all_grows : NotesAdded task s width added old_keys old_pairs keys pairs
       → IsGrowth task s width old_keys old_pairs keys pairs
-  step_grows (inl h) = singles_grow h
-  step_grows (inr h) = doubles_grow h
+  all_grows (inl h) = singles_grow h
+  all_grows (inr h) = doubles_grow h
+
+-- the same, where what the step follows is said of the noted sets as callers see them
+pub step_grows : (task : Task) (s : State) (step : Instance) (width : ℕ)
+    (old_keys old_pairs keys pairs : List (List ℕ)) (old : Noted) → IsKept width old_keys old_pairs
+    → IsStep task step → noted_by width old_keys old_pairs ≡ old → FollowsNoted task old s step
+    → NotesAdded task s width (keys_added task step) old_keys old_pairs keys pairs
+    → IsGrowth task s width old_keys old_pairs keys pairs
+step_grows task s step width old_keys old_pairs keys pairs old kept is_step seen follows notes =
+    all_grows task s step width old_keys old_pairs keys pairs kept is_step
+    (subst (λ n. FollowsNoted task n s step) (sym seen) follows) notes

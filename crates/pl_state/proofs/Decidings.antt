@@ -5,7 +5,7 @@ use Rattle.std.proofs.Common.{count_by, ◌^◌}
 use Rattle.std.specs.List.{list_all, filter}
 use Rattle.std.proofs.lemmas.Bool.{cases_Bool, true≢false, false≢true}
 use Rattle.std.proofs.lemmas.List.{append-nil, take_all}
-use Rattle.std.proofs.lemmas.List.Elements.{filter_more, filter_passes, All-filter}
+use Rattle.std.proofs.lemmas.List.Elements.{filter_more, filter_passes, All-filter, All-get_or}
 use Rattle.std.proofs.lemmas.List.Sums.{sum_by-cons, count_by_more_yes, count_by_more_no}
 use Rattle.pl_task.specs.declared.data.GoalLiteral.{GoalLiteral}
 use Rattle.pl_task.specs.declared.task.Task.{Task}
@@ -142,7 +142,7 @@ goal_met task words literals missed many none are h =
     sym (all_from_count (is_goal_met (state_in task words)) task.goal (omega arith))
 
 -- the literals that a state decides are over atoms of the task
-pub literals_well : (task : Task) (literals : List GoalLiteral) → literals ≡ filter (is_open task) task.goal →
+literals_well : (task : Task) (literals : List GoalLiteral) → literals ≡ filter (is_open task) task.goal →
     All (λ (g : GoalLiteral). IsAtomOf task.objects task.predicates g.atom) literals
 literals_well task literals are =
     subst (All (λ (g : GoalLiteral). IsAtomOf task.objects task.predicates g.atom)) (sym are)
@@ -150,10 +150,24 @@ literals_well task literals are =
     task.goal_ok.each)
 
 -- and over fluent predicates
-pub literals_fluent : (task : Task) (literals : List GoalLiteral) →
+literals_fluent : (task : Task) (literals : List GoalLiteral) →
     literals ≡ filter (is_open task) task.goal → All (λ (g : GoalLiteral). is_open task g ≡ true) literals
 literals_fluent task literals are = subst (All (λ (g : GoalLiteral). is_open task g ≡ true)) (sym are)
     (filter_passes (is_open task) task.goal)
+
+-- so is the one at a place of the slice that has them
+pub open_literal : (task : Task) (slice literals : List GoalLiteral) (i : ℕ) (d literal : GoalLiteral)
+    → slice ≡ literals → literals ≡ filter (is_open task) task.goal → i < length slice
+    → literal ≡ get_or slice i d →
+    IsAtomOf task.objects task.predicates literal.atom × (is_open task literal ≡ true)
+open_literal task slice literals i d literal same are low is = (
+  subst (λ (g : GoalLiteral). IsAtomOf task.objects task.predicates g.atom) (sym is)
+      (All-get_or (λ (g : GoalLiteral). IsAtomOf task.objects task.predicates g.atom) slice i d low
+      (literals_well task slice (same ∙ are))),
+  subst (λ (g : GoalLiteral). is_open task g ≡ true) (sym is)
+      (All-get_or (λ (g : GoalLiteral). is_open task g ≡ true) slice i d low
+      (literals_fluent task slice (same ∙ are))),
+)
 
 -- the literals so far are decided
 pub record IsDecidedUpTo (task : Task) (goal : List GoalLiteral) (i missed : ℕ)

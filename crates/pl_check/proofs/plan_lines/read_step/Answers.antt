@@ -1,5 +1,6 @@
 use Rattle.std.proofs.Common.{◌∙◌, ◌≤◌, sym, subst, length}
-use Rattle.pl_check.proofs.PlanLineLemmas.{lines_none, lines_one, step_short, step_of_line}
+use Rattle.pl_task.proofs.StepLemmas.{few_objects}
+use Rattle.pl_check.proofs.PlanLineLemmas.{lines_none, lines_one, step_of_line}
 use Rattle.pl_check.proofs.plan_lines.read_step.Goals as goal
 
 pub returns-in-Err-Fault-clause-refused : goal.returns-in-Err-Fault-clause-refused
@@ -16,6 +17,6 @@ returns-in_default-clause-refused c =
 pub of-requires : goal.of-requires
 of-requires c =
     subst (λ args. length args ≤ 64) (sym c.view.ensures.args)
-    (step_short c.args.task.now c.in-Some.step.now
+    (few_objects c.args.task.now c.in-Some.step.now
     (step_of_line c.args.task.now c.in-Ok.lines c.in-Some.step.now c.in-Ok.ensures.steps
     (sym c.as_slice.ensures ∙ c.in-Some.ensures)))

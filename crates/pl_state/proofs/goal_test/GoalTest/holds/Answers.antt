@@ -1,15 +1,12 @@
-use Rattle.std.proofs.Common.{◌≡◌, ◌<◌, ◌≤◌, List, length, false, true, sym, ap, subst, ◌∙◌, arith}
+use Rattle.std.proofs.Common.{◌≡◌, ◌<◌, ◌≤◌, List, length, false, sym, ap, subst, ◌∙◌, arith}
 use Rattle.std.specs.List.{filter, list_all}
 use Rattle.std.proofs.lemmas.List.{take_all}
-use Rattle.std.proofs.lemmas.List.Elements.{All-get_or}
 use Rattle.std.proofs.lemmas.List.Folds.{list_all_at}
 use Rattle.pl_task.specs.declared.data.GoalLiteral.{GoalLiteral}
 use Rattle.pl_task.specs.Goal.{is_goal_met}
-use Rattle.pl_task.specs.WellFormed.{IsAtomOf}
 use Rattle.pl_state.specs.StateOf.{state_in}
 use Rattle.pl_state.specs.Decided.{DecidedGoal, is_open}
-use Rattle.pl_state.proofs.Decidings.{goal_missed, goal_unmet, goal_met, literals_well}
-use Rattle.pl_state.proofs.Decidings.{literals_fluent}
+use Rattle.pl_state.proofs.Decidings.{goal_missed, goal_unmet, goal_met, open_literal}
 use Rattle.pl_state.proofs.goal_test.GoalTest.holds.Goals as goal
 
 pub returns-then-self-gt0 : goal.returns-then-self-gt0
@@ -20,26 +17,15 @@ returns-then-self-gt0 c =
 
 pub is_met-requires-clause-atom : goal.is_met-requires-clause-atom
 is_met-requires-clause-atom c =
-    let are : c.deref-literal-items.result.now ≡ filter (is_open c.args.task.now) c.args.task.now.goal =
-    c.deref-literal-items.ensures.value ∙ ap (λ (v : DecidedGoal). v.literals) c.self.view_is ∙
-    c.requires.goal.literals_are in
-    subst (λ (g : GoalLiteral). IsAtomOf c.args.task.now.objects c.args.task.now.predicates g.atom)
-    (sym c.literal-item.is)
-    (All-get_or (λ (g : GoalLiteral). IsAtomOf c.args.task.now.objects c.args.task.now.predicates g.atom)
-    c.deref-literal-items.result.now c.loop-literal.literal-index c.literal-item.result
-    c.loop-literal-test.true
-    (literals_well c.args.task.now c.deref-literal-items.result.now are))
+    (open_literal c.args.task.now c.deref-literal-items.result.now _ c.loop-literal.literal-index _ _
+    (c.deref-literal-items.ensures.value ∙ ap (λ (v : DecidedGoal). v.literals) c.self.view_is)
+    c.requires.goal.literals_are c.loop-literal-test.true c.literal-item.is).0
 
 pub is_met-requires-clause-fluent : goal.is_met-requires-clause-fluent
 is_met-requires-clause-fluent c =
-    let are : c.deref-literal-items.result.now ≡ filter (is_open c.args.task.now) c.args.task.now.goal =
-    c.deref-literal-items.ensures.value ∙ ap (λ (v : DecidedGoal). v.literals) c.self.view_is ∙
-    c.requires.goal.literals_are in
-    subst (λ (g : GoalLiteral). is_open c.args.task.now g ≡ true) (sym c.literal-item.is)
-    (All-get_or (λ (g : GoalLiteral). is_open c.args.task.now g ≡ true)
-    c.deref-literal-items.result.now c.loop-literal.literal-index c.literal-item.result
-    c.loop-literal-test.true
-    (literals_fluent c.args.task.now c.deref-literal-items.result.now are))
+    (open_literal c.args.task.now c.deref-literal-items.result.now _ c.loop-literal.literal-index _ _
+    (c.deref-literal-items.ensures.value ∙ ap (λ (v : DecidedGoal). v.literals) c.self.view_is)
+    c.requires.goal.literals_are c.loop-literal-test.true c.literal-item.is).1
 
 pub returns-then-not-is_met : goal.returns-then-not-is_met
 returns-then-not-is_met c =
