@@ -3,10 +3,9 @@ use Rattle.std.proofs.Common.{◌≡◌, ℕ, ◌<◌, Bool, true, false, ◌&&�
 use Rattle.std.proofs.Common.{filter, Option, Some, None, slice_get, refl, sym, ◌∙◌, ap, subst, IsTrue}
 use Rattle.std.proofs.Common.{Contains, inl, inr}
 use Rattle.std.specs.Prelude.{slice_index}
-use Rattle.std.specs.List.{list_all, range_with_len}
+use Rattle.std.specs.List.{list_all}
 use Rattle.std.proofs.lemmas.Bool.{and_parts}
 use Rattle.std.proofs.lemmas.List.{length-map}
-use Rattle.std.proofs.lemmas.List.Elements.{Contains-append_cases}
 use Rattle.std.proofs.lemmas.List.Sums.{length-filter}
 use Rattle.pl_task.specs.declared.data.Literal.{Literal}
 use Rattle.pl_task.specs.declared.data.Literal.TheVariants as literal
@@ -26,7 +25,7 @@ use Rattle.pl_normal.specs.declared.form.Placed.{Placed}
 use Rattle.pl_normal.specs.declared.form.Sieve.{Sieve}
 use Rattle.pl_normal.specs.declared.form.Source.TheVariants as source
 use Rattle.pl_normal.specs.Slots.{parameter_slots, slot_at, slots_of, are_fixed, class_set}
-use Rattle.pl_normal.specs.Edges.{type_edge, type_edges, atom_edges, literal_edge, edges_of}
+use Rattle.pl_normal.specs.Edges.{type_edge, literal_edge, edges_of}
 use Rattle.pl_normal.specs.Filters.{local_at, local_among, local_of, home}
 use Rattle.pl_normal.specs.Guards.{guards_of, types_at}
 use Rattle.pl_normal.specs.Measures.{assigned, local_answers}
@@ -34,7 +33,7 @@ use Rattle.pl_normal.specs.ParameterOrder.{classes_in_order}
 use Rattle.pl_normal.specs.Query.{args_under, values_of, is_in_source, meets_edge, meets_guard, meets_sieve}
 use Rattle.pl_normal.specs.Query.{is_local_answer}
 use Rattle.pl_normal.specs.Steps.{tuples}
-use Rattle.pl_normal.proofs.Answering.{type_edge_among}
+use Rattle.pl_normal.proofs.Answering.{type_edge_among, with_edge}
 use Rattle.pl_normal.proofs.KindLemmas.{typed_within}
 use Rattle.pl_normal.proofs.Listing.{IsTuple, tuple_is, is_tuple, tuples_ascend, sorted_filter}
 use Rattle.pl_normal.proofs.Listing.{steps_are_assignments}
@@ -95,27 +94,9 @@ literal_edge_agrees task schema s f g e (literal.NotEqual a b) same held = absur
 edge_agrees : (task : Task) (schema : Schema) (s : State) (f g : Assignment) (e : Edge)
     → args_under schema f ≡ args_under schema g → Contains (edges_of schema) e
     → meets_edge task schema s f e ≡ meets_edge task schema s g e
-unfolding edges_of type_edges atom_edges
-edge_agrees task schema s f g e same held =
-    elim (Contains-append_cases (type_edges (parameter_slots schema))
-    (atom_edges (parameter_slots schema) schema.condition) e held) [
-      | inl first ↦ of_type
-          (Contains-from_flat_map (λ p. type_edge p (slot_at (parameter_slots schema) p))
-          (range_with_len 0 (length (parameter_slots schema))) e first)
-      | inr second ↦ of_atom
-          (Contains-from_flat_map (literal_edge (parameter_slots schema)) schema.condition e second)
-    ]
-  where
-    of_type : (p : ℕ) × Contains (range_with_len 0 (length (parameter_slots schema))) p
-        × Contains (type_edge p (slot_at (parameter_slots schema) p)) e
-        → meets_edge task schema s f e ≡ meets_edge task schema s g e
-    of_type (p, within, c) = type_agrees task schema s f g e p (slot_at (parameter_slots schema) p) refl same
-        c
-
-    of_atom : (l : Literal) × Contains schema.condition l
-        × Contains (literal_edge (parameter_slots schema) l) e
-        → meets_edge task schema s f e ≡ meets_edge task schema s g e
-    of_atom (l, within, c) = literal_edge_agrees task schema s f g e l same c
+edge_agrees task schema s f g e same held = with_edge schema e held
+    (λ p within c. type_agrees task schema s f g e p (slot_at (parameter_slots schema) p) refl same c)
+    (λ l within c. literal_edge_agrees task schema s f g e l same c)
 
 is_local : (place : Option ℕ) (y : Sieve) (x : Placed) → Contains (local_at place y) x → y ≡ x.sieve
 is_local None y x c = absurd (Contains-nil x c)

@@ -5,7 +5,9 @@ ghost use Rattle.pl_join.specs.Relation.{Agree, AreDistinct};
 ghost use Rattle.pl_normal.specs.Filters.{late_of};
 ghost use Rattle.pl_normal.specs.Measures.{assigned};
 ghost use Rattle.pl_normal.specs.NormalForm.{IsNormalForm};
-ghost use Rattle.pl_gen.specs.Queries.{IsQuery};
+ghost use Rattle.pl_normal.specs.ParameterOrder.{classes_in_order};
+ghost use Rattle.pl_gen.specs.Queries.{IsQuery, state_asked};
+ghost use Rattle.pl_gen.specs.SchemaSteps.{passes_late};
 ghost use Rattle.pl_gen.specs.Turns.{HasNextRow, HasNextStep};
 ghost use Rattle.pl_gen.specs.Kept.{AreRowsFor, IsTurnOf};
 ghost use Rattle.pl_gen.specs.Reads.{row_reads, turn_reads_of, TakesOfLocal};
@@ -81,15 +83,36 @@ fn next_row<L: Ledger>(
         → TakesOfLocal query.now.schema.now steps.old steps.new result }
     ensures rise { steps.old ≤ steps.new }
 {
-    let late = form.late.as_slice();
-    let order = form.order.as_slice();
     while let Some(row) = cursor.next(steps) {
-        write_values(values, &order[..row.len()], row);
-        if passes_all(query, late, values, steps) {
+        if passes_row(query, form, row, values, steps) {
             return true;
         }
     }
     false
+}
+
+/// Writes the values of a row, and tells whether the late filters let it pass.
+fn passes_row<L: Ledger>(
+    query: &Query<'_, '_>,
+    form: &NormalSchema,
+    row: &[u32],
+    values: &mut [u32],
+    steps: &mut Steps<L>,
+) -> bool
+    requires query { IsQuery query.now }
+    requires form { IsNormalForm query.now.normal.now query.now.schema.now form.now }
+    requires row { length row.now ≡ length (classes_in_order query.now.schema.now) }
+    requires values { length values.old ≡ 64 }
+    ensures passes { result ≡ passes_late query.now.schema.now (state_asked query.now) row.now }
+    ensures agree { Agree (classes_in_order query.now.schema.now) (slice_index values.new)
+        (assigned (classes_in_order query.now.schema.now) row.now) }
+    ensures values { length values.new ≡ 64 }
+    ensures cost { steps.new ≤ steps.old + length (late_of query.now.schema.now) }
+    ensures rise { steps.old ≤ steps.new }
+{
+    let order = form.order.as_slice();
+    write_values(values, &order[..row.len()], row);
+    passes_all(query, form.late.as_slice(), values, steps)
 }
 
 /// Writes the value of each class to the place with the class's number.

@@ -1,9 +1,9 @@
 -- The query of a schema says what applicability says: literal by literal.
 use Rattle.std.proofs.Common.{◌≡◌, ℕ, ◌<◌, zero, suc, ◌==◌, Bool, true, false, not, ◌&&◌, if◌then◌else◌, List}
-use Rattle.std.proofs.Common.{[], ◌∷◌, length, map, Option, Some, None, slice_get, refl, sym, ◌∙◌, ap, subst}
-use Rattle.std.proofs.Common.{arith, inl, inr, All, Contains, eqb-true, eq-eqb}
+use Rattle.std.proofs.Common.{[], ◌∷◌, ◌++◌, length, map, Option, Some, None, slice_get, refl, sym, ◌∙◌, ap}
+use Rattle.std.proofs.Common.{subst, arith, inl, inr, All, Contains, eqb-true, eq-eqb}
 use Rattle.std.specs.Prelude.{slice_index}
-use Rattle.std.specs.List.{list_all, range_with_len}
+use Rattle.std.specs.List.{flat_map, list_all, range_with_len}
 use Rattle.std.proofs.lemmas.Bool.{and_parts, and_from, false≢true}
 use Rattle.std.proofs.lemmas.Grind.{same_number_lists}
 use Rattle.std.proofs.lemmas.Option.{slice_get_within, get_or_from_slice_get}
@@ -446,81 +446,73 @@ literal_parts : (task : Task) (schema : Schema) (s : State) (f : Assignment) (l 
 literal_parts task schema s f l keeps are (literals, types) held =
     sym (literal_met task schema s f l keeps held (are l held)) ∙ literals l held
 
+-- what parameters and literals give is of a parameter or of a literal
+from_parts : {Y P : Type 0} (schema : Schema) (f : ℕ → List Y) (g : Literal → List Y) (y : Y)
+    → Contains (flat_map f (range_with_len 0 (length (parameter_slots schema)))
+    ++ flat_map g schema.condition) y → ((p : ℕ) → p < length schema.parameters → Contains (f p) y → P)
+    → ((l : Literal) → Contains schema.condition l → Contains (g l) y → P) → P
+from_parts {Y = Y} {P = P} schema f g y held first second =
+    elim (Contains-append_cases (flat_map f (range_with_len 0 (length (parameter_slots schema))))
+    (flat_map g schema.condition) y held) [
+      | inl h ↦ of_parameter
+          (Contains-from_flat_map f (range_with_len 0 (length (parameter_slots schema))) y h)
+      | inr h ↦ of_literal (Contains-from_flat_map g schema.condition y h)
+    ]
+  where
+    of_parameter : (p : ℕ) × Contains (range_with_len 0 (length (parameter_slots schema))) p
+        × Contains (f p) y → P
+    of_parameter (p, among, is) =
+        let low = within_range (length (parameter_slots schema)) p among in
+        let long = parameter_slots-length schema in first p (omega arith) is
+
+    of_literal : (l : Literal) × Contains schema.condition l × Contains (g l) y → P
+    of_literal (l, among, is) = second l among is
+
+pub with_edge : {P : Type 0} (schema : Schema) (e : Edge) → Contains (edges_of schema) e
+    → ((p : ℕ) → p < length schema.parameters
+    → Contains (type_edge p (slot_at (parameter_slots schema) p)) e → P)
+    → ((l : Literal) → Contains schema.condition l → Contains (literal_edge (parameter_slots schema) l) e → P)
+    → P
+unfolding edges_of type_edges atom_edges
+with_edge schema e held = from_parts schema (λ p. type_edge p (slot_at (parameter_slots schema) p))
+    (literal_edge (parameter_slots schema)) e held
+
+pub with_guard : {P : Type 0} (task : Task) (schema : Schema) (g : Guard) → Contains (guards_of task schema) g
+    → ((p : ℕ) → p < length schema.parameters
+    → Contains (type_guard task (types_at schema.parameters p) (slot_at (parameter_slots schema) p)) g → P)
+    → ((l : Literal) → Contains schema.condition l
+    → Contains (literal_guard task (parameter_slots schema) l) g → P) → P
+unfolding guards_of type_guards literal_guards
+with_guard task schema g held = from_parts schema
+    (λ p. type_guard task (types_at schema.parameters p) (slot_at (parameter_slots schema) p))
+    (literal_guard task (parameter_slots schema)) g held
+
 edge_holds : (task : Task) (schema : Schema) (s : State) (f : Assignment) (e : Edge) → KeepsStatic task s
     → AreLiteralsOf task schema → HoldsAll task schema s f → Contains (edges_of schema) e
     → meets_edge task schema s f e ≡ true
-unfolding edges_of type_edges atom_edges
-edge_holds task schema s f e keeps are all c =
-    elim (Contains-append_cases (type_edges (parameter_slots schema))
-    (atom_edges (parameter_slots schema) schema.condition) e c) [
-      | inl first ↦ of_type
-          (Contains-from_flat_map (λ q. type_edge q (slot_at (parameter_slots schema) q))
-          (range_with_len 0 (length (parameter_slots schema))) e first)
-      | inr second ↦ of_atom
-          (Contains-from_flat_map (literal_edge (parameter_slots schema)) schema.condition e second)
-    ]
-  where
-    below : (p : ℕ) → Contains (range_with_len 0 (length (parameter_slots schema))) p
-        → p < length schema.parameters
-    below p h =
-        let low = within_range (length (parameter_slots schema)) p h in
-        let long = parameter_slots-length schema in omega arith
-
-    of_type : (p : ℕ) × Contains (range_with_len 0 (length (parameter_slots schema))) p
-        × Contains (type_edge p (slot_at (parameter_slots schema) p)) e → meets_edge task schema s f e ≡ true
-    of_type (p, within, held) =
-        passes_all (meets_edge task schema s f) (type_edge p (slot_at (parameter_slots schema) p)) e
-        (and_parts (list_all (meets_edge task schema s f)
-        (type_edge p (slot_at (parameter_slots schema) p))) _
-        (typed_parts task schema s f p all (below p within))).0 held
-
-    of_atom : (l : Literal) × Contains schema.condition l
-        × Contains (literal_edge (parameter_slots schema) l) e → meets_edge task schema s f e ≡ true
-    of_atom (l, within, held) =
-        passes_all (meets_edge task schema s f) (literal_edge (parameter_slots schema) l) e
-        (and_parts (list_all (meets_edge task schema s f) (literal_edge (parameter_slots schema) l)) _
-        (literal_parts task schema s f l keeps are all within)).0 held
+edge_holds task schema s f e keeps are all c = with_edge schema e c
+    (λ p below held. passes_all (meets_edge task schema s f)
+    (type_edge p (slot_at (parameter_slots schema) p)) e
+    (and_parts (list_all (meets_edge task schema s f)
+    (type_edge p (slot_at (parameter_slots schema) p))) _
+    (typed_parts task schema s f p all below)).0 held)
+    (λ l within held. passes_all (meets_edge task schema s f) (literal_edge (parameter_slots schema) l) e
+    (and_parts (list_all (meets_edge task schema s f) (literal_edge (parameter_slots schema) l)) _
+    (literal_parts task schema s f l keeps are all within)).0 held)
 
 guard_holds : (task : Task) (schema : Schema) (s : State) (f : Assignment) (g : Guard) → KeepsStatic task s
     → AreLiteralsOf task schema → HoldsAll task schema s f → Contains (guards_of task schema) g
     → meets_guard s g ≡ true
-unfolding guards_of type_guards literal_guards
-guard_holds task schema s f g keeps are all c =
-    elim (Contains-append_cases (type_guards task schema.parameters (parameter_slots schema))
-    (literal_guards task (parameter_slots schema) schema.condition) g c) [
-      | inl first ↦ of_type
-          (Contains-from_flat_map
-          (λ q. type_guard task (types_at schema.parameters q) (slot_at (parameter_slots schema) q))
-          (range_with_len 0 (length (parameter_slots schema))) g first)
-      | inr second ↦ of_literal
-          (Contains-from_flat_map (literal_guard task (parameter_slots schema)) schema.condition g second)
-    ]
-  where
-    below : (p : ℕ) → Contains (range_with_len 0 (length (parameter_slots schema))) p
-        → p < length schema.parameters
-    below p h =
-        let low = within_range (length (parameter_slots schema)) p h in
-        let long = parameter_slots-length schema in omega arith
-
-    of_type : (p : ℕ) × Contains (range_with_len 0 (length (parameter_slots schema))) p
-        × Contains (type_guard task (types_at schema.parameters p) (slot_at (parameter_slots schema) p)) g
-        → meets_guard s g ≡ true
-    of_type (p, within, held) =
-        passes_all (meets_guard s)
-        (type_guard task (types_at schema.parameters p) (slot_at (parameter_slots schema) p)) g
-        (and_parts (list_all (meets_edge task schema s f)
-        (type_edge p (slot_at (parameter_slots schema) p))) _
-        (typed_parts task schema s f p all (below p within))).1 held
-
-    of_literal : (l : Literal) × Contains schema.condition l
-        × Contains (literal_guard task (parameter_slots schema) l) g → meets_guard s g ≡ true
-    of_literal (l, within, held) =
-        let parts = and_parts
-        (list_all (meets_edge task schema s f) (literal_edge (parameter_slots schema) l)) _
-        (literal_parts task schema s f l keeps are all within) in
-        passes_all (meets_guard s) (literal_guard task (parameter_slots schema) l) g
-        (and_parts (list_all (meets_guard s) (literal_guard task (parameter_slots schema) l)) _ parts.1).0
-        held
+guard_holds task schema s f g keeps are all c = with_guard task schema g c
+    (λ p below held. passes_all (meets_guard s)
+    (type_guard task (types_at schema.parameters p) (slot_at (parameter_slots schema) p)) g
+    (and_parts (list_all (meets_edge task schema s f)
+    (type_edge p (slot_at (parameter_slots schema) p))) _
+    (typed_parts task schema s f p all below)).1 held)
+    (λ l within held. passes_all (meets_guard s) (literal_guard task (parameter_slots schema) l) g
+    (and_parts (list_all (meets_guard s) (literal_guard task (parameter_slots schema) l)) _
+    (and_parts (list_all (meets_edge task schema s f) (literal_edge (parameter_slots schema) l)) _
+    (literal_parts task schema s f l keeps are all within)).1).0 held)
 
 sieve_holds : (task : Task) (schema : Schema) (s : State) (f : Assignment) (x : Sieve) → KeepsStatic task s
     → AreLiteralsOf task schema → HoldsAll task schema s f

@@ -1,14 +1,14 @@
 -- The parts of a normal form are of the task: edges, guards and filters.
-use Rattle.std.proofs.Common.{◌≡◌, ℕ, zero, suc, ◌+◌, ◌<◌, ◌≤◌, ◌==◌, ◌↔◌, ◌⊎◌, inl, inr, Bool, true, false}
+use Rattle.std.proofs.Common.{◌≡◌, ℕ, zero, suc, ◌+◌, ◌<◌, ◌==◌, ◌↔◌, ◌⊎◌, inl, inr, Bool, true, false}
 use Rattle.std.proofs.Common.{◌&&◌, cond, if◌then◌else◌, List, [], ◌∷◌, length, map, get_or, Option, Some}
 use Rattle.std.proofs.Common.{None, slice_get, refl, sym, ◌∙◌, ap, subst, arith, All, Contains, eqb-true}
 use Rattle.std.proofs.Common.{bit_and}
-use Rattle.std.specs.List.{range_with_len, position_from}
+use Rattle.std.specs.List.{position_from}
 use Rattle.std.specs.Int.{bit_at}
 use Rattle.std.proofs.lemmas.Bool.{false≢true, and_parts}
 use Rattle.std.proofs.lemmas.Option.{slice_get_within, get_or_from_slice_get}
 use Rattle.std.proofs.lemmas.List.{length-map}
-use Rattle.std.proofs.lemmas.List.Elements.{All-contains, Contains-get_or, Contains-append_cases}
+use Rattle.std.proofs.lemmas.List.Elements.{All-contains, Contains-get_or}
 use Rattle.pl_rows.proofs.Canonical.{Contains-cons_cases, Contains-cons_first, Contains-cons_rest}
 use Rattle.pl_rows.proofs.Canonical.{Contains-nil}
 use Rattle.pl_task.specs.declared.data.Atom.{Atom}
@@ -26,7 +26,6 @@ use Rattle.pl_join.specs.declared.slot.Slot.TheVariants.{Fixed, Class}
 use Rattle.pl_task.specs.States.{initial}
 use Rattle.pl_join.specs.Relation.{IsSlotBelow, IsSlotOver}
 use Rattle.pl_join.proofs.Members.{Contains-from_flat_map}
-use Rattle.pl_hyper.proofs.Members.{within_range}
 use Rattle.pl_normal.specs.declared.form.Edge.{Edge}
 use Rattle.pl_normal.specs.declared.form.Guard.{Guard}
 use Rattle.pl_normal.specs.declared.form.Guard.TheVariants as guard
@@ -36,16 +35,17 @@ use Rattle.pl_normal.specs.declared.form.Sieve.TheVariants as sieve
 use Rattle.pl_normal.specs.declared.form.Source.TheVariants as source
 use Rattle.pl_normal.specs.Slots.{parameter_slots, slot_at, slot_of, slots_of, is_fixed, are_fixed}
 use Rattle.pl_normal.specs.Slots.{fixed_value, class_set}
-use Rattle.pl_normal.specs.Edges.{type_edge, type_edges, literal_edge, atom_edges, edges_of}
+use Rattle.pl_normal.specs.Edges.{type_edge, literal_edge, edges_of}
 use Rattle.pl_normal.specs.Filters.{literal_sieve, sieves_of, local_among, late_among, local_at, late_at}
 use Rattle.pl_normal.specs.Filters.{home, local_of, late_of, has_all, sieve_classes}
-use Rattle.pl_normal.specs.Guards.{known, type_guard, type_guards, types_at, atom_guard, wanted_guard}
-use Rattle.pl_normal.specs.Guards.{equality_guard, literal_guard, literal_guards, guards_of, is_as_wanted}
+use Rattle.pl_normal.specs.Guards.{known, type_guard, types_at, atom_guard, wanted_guard}
+use Rattle.pl_normal.specs.Guards.{equality_guard, literal_guard, guards_of, is_as_wanted}
 use Rattle.pl_normal.specs.Guards.{has_some_type}
 use Rattle.pl_normal.specs.Scope.{IsSlotOf}
 use Rattle.pl_normal.proofs.SlotLemmas.{parameter_slots-length}
 use Rattle.pl_normal.proofs.Forming.{slots_below, slots_within}
 use Rattle.pl_normal.proofs.Ordered.{set_bits}
+use Rattle.pl_normal.proofs.Answering.{with_edge, with_guard}
 use Rattle.pl_hyper.proofs.Bits.{and_within}
 use Rattle.pl_normal.specs.Queries.{IsEdgeOf, IsSieveOf, IsSieveOver, IsGuardOf}
 use Rattle.std.proofs.lemmas.Option.{same_Some}
@@ -58,24 +58,21 @@ SchemaOf task schema = IsSchemaOf task.types task.objects task.predicates schema
 fixed_below : (o : ℕ) → IsSlotBelow 64 (Fixed o)
 fixed_below o c e = absurd (cc)
 
+-- a parameter's slot, and the default of those that are read past the end
+slot_cases : (slots : List Slot) (p : ℕ) → (p < length slots) ⊎ (slot_at slots p ≡ Fixed 0)
+slot_cases [] p = inr refl
+slot_cases (x ∷ slots) zero = inl (omega arith)
+slot_cases (x ∷ slots) (suc p) = elim (slot_cases slots p) [
+  | inl low ↦ inl (omega (arith, low))
+  | inr past ↦ inr past
+]
+
 param_below : (task : Task) (schema : Schema) (p : ℕ) → SchemaOf task schema →
     IsSlotBelow 64 (slot_at (parameter_slots schema) p)
-param_below task schema p is = at p (slots_below schema (parameter_slots schema) is.few_parameters refl)
-  where
-    at : (p : ℕ) → All (IsSlotBelow 64) (parameter_slots schema) →
-        IsSlotBelow 64 (slot_at (parameter_slots schema) p)
-    at p all = elim (split p (length (parameter_slots schema))) [
-      | inl low ↦ all p (Fixed 0) low
-      | inr high ↦ subst (IsSlotBelow 64) (sym (past (parameter_slots schema) p high)) (fixed_below 0)
-    ]
-      where
-        split : (a b : ℕ) → (a < b) ⊎ (b ≤ a)
-        split a b = grind arith
-
-        past : (xs : List Slot) (p : ℕ) → length xs ≤ p → get_or xs p (Fixed 0) ≡ Fixed 0
-        past [] p h = refl
-        past (x ∷ xs) zero h = absurd (omega arith)
-        past (x ∷ xs) (suc p) h = past xs p (omega arith)
+param_below task schema p is = elim (slot_cases (parameter_slots schema) p) [
+  | inl low ↦ slots_below schema (parameter_slots schema) is.few_parameters refl p (Fixed 0) low
+  | inr past ↦ subst (IsSlotBelow 64) (sym past) (fixed_below 0)
+]
 
 term_slot_below : (task : Task) (schema : Schema) (t : Term) → SchemaOf task schema →
     IsSlotBelow 64 (slot_of (parameter_slots schema) t)
@@ -174,27 +171,10 @@ literal_here task schema l is held = All-contains (IsLiteralOf task.predicates (
 
 pub edge_of : (task : Task) (schema : Schema) (e : Edge) → SchemaOf task schema →
     Contains (edges_of schema) e → IsEdgeOf task schema e
-unfolding edges_of type_edges atom_edges
-edge_of task schema e is held = elim (Contains-append_cases (type_edges (parameter_slots schema))
-    (atom_edges (parameter_slots schema) schema.condition) e held) [
-      | inl first ↦ of_type (Contains-from_flat_map (λ q. type_edge q (slot_at (parameter_slots schema) q))
-          (range_with_len 0 (length (parameter_slots schema))) e first)
-      | inr second ↦ of_atom
-          (Contains-from_flat_map (literal_edge (parameter_slots schema)) schema.condition e
-          second)
-    ]
-  where
-    of_type : (p : ℕ) × Contains (range_with_len 0 (length (parameter_slots schema))) p × Contains
-        (type_edge p (slot_at (parameter_slots schema) p)) e → IsEdgeOf task schema e
-    of_type (p, among, at) =
-        let low = within_range (length (parameter_slots schema)) p among in
-        let long = parameter_slots-length schema in
-        type_edge_of task schema p (slot_at (parameter_slots schema) p) e (omega (arith, low, long))
-        (param_below task schema p is) at
-
-    of_atom : (l : Literal) × Contains schema.condition l × Contains
-        (literal_edge (parameter_slots schema) l) e → IsEdgeOf task schema e
-    of_atom (l, among, at) = literal_edge_of task schema l e is (literal_here task schema l is among) at
+edge_of task schema e is held = with_edge schema e held
+    (λ p low at. type_edge_of task schema p (slot_at (parameter_slots schema) p) e low
+    (param_below task schema p is) at)
+    (λ l among at. literal_edge_of task schema l e is (literal_here task schema l is among) at)
 
 -- ---- filters
 
@@ -430,19 +410,11 @@ atom_guard_of task wanted a false g of held = known_of task (is_as_wanted wanted
 param_within : (task : Task) (schema : Schema) (p : ℕ) → SchemaOf task schema →
     IsSlotOf (length task.objects) (slot_at (parameter_slots schema) p) ⊎
     (slot_at (parameter_slots schema) p ≡ Fixed 0)
-param_within task schema p is = elim (split p (length (parameter_slots schema))) [
+param_within task schema p is = elim (slot_cases (parameter_slots schema) p) [
   | inl low ↦ inl (slots_within task.predicates (length task.objects) schema (parameter_slots schema)
       is.literals refl p (Fixed 0) low)
-  | inr high ↦ inr (past (parameter_slots schema) p high)
+  | inr past ↦ inr past
 ]
-  where
-    split : (a b : ℕ) → (a < b) ⊎ (b ≤ a)
-    split a b = grind arith
-
-    past : (xs : List Slot) (p : ℕ) → length xs ≤ p → get_or xs p (Fixed 0) ≡ Fixed 0
-    past [] p h = refl
-    past (x ∷ xs) zero h = absurd (omega arith)
-    past (x ∷ xs) (suc p) h = past xs p (omega arith)
 
 term_within : (task : Task) (schema : Schema) (t : Term) → SchemaOf task schema →
     IsTermOf (length task.objects) (length schema.parameters) t →
@@ -533,25 +505,9 @@ type_guard_of task types (Class c) g held = absurd (Contains-nil g held)
 
 pub guard_of : (task : Task) (schema : Schema) (g : Guard) → SchemaOf task schema →
     Contains (guards_of task schema) g → IsGuardOf task g
-unfolding guards_of type_guards literal_guards
-guard_of task schema g is held = elim (Contains-append_cases
-    (type_guards task schema.parameters (parameter_slots schema))
-    (literal_guards task (parameter_slots schema) schema.condition) g held) [
-      | inl first ↦ of_type (Contains-from_flat_map (λ p. type_guard task (types_at schema.parameters p)
-          (slot_at (parameter_slots schema) p)) (range_with_len 0 (length (parameter_slots schema))) g first)
-      | inr second ↦ of_literal (Contains-from_flat_map (literal_guard task (parameter_slots schema))
-          schema.condition g second)
-    ]
-  where
-    of_type : (p : ℕ) × Contains (range_with_len 0 (length (parameter_slots schema))) p × Contains
-        (type_guard task (types_at schema.parameters p) (slot_at (parameter_slots schema) p)) g →
-        IsGuardOf task g
-    of_type (p, among, at) = type_guard_of task (types_at schema.parameters p)
-        (slot_at (parameter_slots schema) p) g at
-
-    of_literal : (l : Literal) × Contains schema.condition l × Contains
-        (literal_guard task (parameter_slots schema) l) g → IsGuardOf task g
-    of_literal (l, among, at) = literal_guard_of task schema l g is (literal_here task schema l is among) at
+guard_of task schema g is held = with_guard task schema g held
+    (λ p low at. type_guard_of task (types_at schema.parameters p) (slot_at (parameter_slots schema) p) g at)
+    (λ l among at. literal_guard_of task schema l g is (literal_here task schema l is among) at)
 
 -- ---- all of them, as lists
 

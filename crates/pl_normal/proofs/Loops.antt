@@ -112,33 +112,34 @@ row_below slots row terms e all h = All-same (IsSlotBelow 64) row (slots_of slot
 
 -- ---- filters
 
+-- a literal more, of which something is made for each of its filters
+filters_more : {Y : Type 0} (f : Sieve → List Y) (slots : List Slot) (condition : List Literal) (i : ℕ)
+    (l : Literal) (before after : List Y) → i < length condition → l ≡ get_or condition i l
+    → before ≡ flat_map f (sieves_of slots (take i condition))
+    → after ≡ before ++ flat_map f (literal_sieve slots l)
+    → after ≡ flat_map f (sieves_of slots (take (i + 1) condition))
+unfolding sieves_of
+filters_more f slots condition i l before after h at b a =
+    a ∙ (ap (λ xs. xs ++ flat_map f (literal_sieve slots l)) b
+    ∙ (sym (flat_map-append f (flat_map (literal_sieve slots) (take i condition)) (literal_sieve slots l))
+    ∙ ap (flat_map f) (flat_more (literal_sieve slots) condition i l
+    (flat_map (literal_sieve slots) (take i condition)) _ h at refl refl)))
+
 pub local_more : (edges : List Edge) (slots : List Slot) (condition : List Literal) (i : ℕ) (l : Literal)
     (before after : List Placed) → i < length condition → l ≡ get_or condition i l
     → before ≡ local_among edges (sieves_of slots (take i condition)) →
     after ≡ before ++ flat_map (λ s. local_at (home edges s) s) (literal_sieve slots l)
     → after ≡ local_among edges (sieves_of slots (take (i + 1) condition))
-unfolding local_among sieves_of
-local_more edges slots condition i l before after h at b a =
-    a ∙ (ap (λ xs. xs ++ flat_map (λ s. local_at (home edges s) s) (literal_sieve slots l)) b
-    ∙ (sym (flat_map-append (λ s. local_at (home edges s) s)
-    (flat_map (literal_sieve slots) (take i condition)) (literal_sieve slots l))
-    ∙ ap (flat_map (λ s. local_at (home edges s) s))
-    (flat_more (literal_sieve slots) condition i l (flat_map (literal_sieve slots) (take i condition)) _ h
-    at refl refl)))
+unfolding local_among
+local_more edges = filters_more (λ s. local_at (home edges s) s)
 
 pub late_more : (edges : List Edge) (slots : List Slot) (condition : List Literal) (i : ℕ) (l : Literal)
     (before after : List Sieve) → i < length condition → l ≡ get_or condition i l
     → before ≡ late_among edges (sieves_of slots (take i condition)) →
     after ≡ before ++ flat_map (λ s. late_at (home edges s) s) (literal_sieve slots l)
     → after ≡ late_among edges (sieves_of slots (take (i + 1) condition))
-unfolding late_among sieves_of
-late_more edges slots condition i l before after h at b a =
-    a ∙ (ap (λ xs. xs ++ flat_map (λ s. late_at (home edges s) s) (literal_sieve slots l)) b
-    ∙ (sym (flat_map-append (λ s. late_at (home edges s) s)
-    (flat_map (literal_sieve slots) (take i condition)) (literal_sieve slots l))
-    ∙ ap (flat_map (λ s. late_at (home edges s) s))
-    (flat_more (literal_sieve slots) condition i l (flat_map (literal_sieve slots) (take i condition)) _ h
-    at refl refl)))
+unfolding late_among
+late_more edges = filters_more (λ s. late_at (home edges s) s)
 
 pub filters_none : (edges : List Edge) (slots : List Slot) (made : List Placed) (late : List Sieve)
     → made ≡ [] → late ≡ [] → (made ≡ local_among edges (sieves_of slots []))

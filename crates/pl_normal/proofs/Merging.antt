@@ -75,9 +75,9 @@ renamed_right x y = elim (max_cases x y) [
 abbrev name_after : List Equality → Equality → ℕ → ℕ
 name_after es e p = renamed (class_of es e.left) (class_of es e.right) (class_of es p)
 
-equated_name : (es : List Equality) (e : Equality) (a b : ℕ) → AreEquated (es ++ e ∷ []) a b
-    → name_after es e a ≡ name_after es e b
-equated_name es e a b (inl h) = elim (Contains-append_cases es (e ∷ []) _ h) [
+equated_name : (es : List Equality) (e : Equality) (a b : ℕ)
+    → Contains (es ++ e ∷ []) (record { left = a; right = b }) → name_after es e a ≡ name_after es e b
+equated_name es e a b h = elim (Contains-append_cases es (e ∷ []) _ h) [
   | inl old ↦ ap (renamed (class_of es e.left) (class_of es e.right))
       (joined_class es a b (joined_once es a b (inl old)))
   | inr new ↦ elim (Contains-cons_cases e [] _ new) [
@@ -91,25 +91,17 @@ equated_name es e a b (inl h) = elim (Contains-append_cases es (e ∷ []) _ h) [
         ap (name_after es e) (sym p)
         ∙ (renamed_left (class_of es e.left) (class_of es e.right)
         ∙ (sym (renamed_right (class_of es e.left) (class_of es e.right)) ∙ ap (name_after es e) q))
-equated_name es e a b (inr h) = elim (Contains-append_cases es (e ∷ []) _ h) [
-  | inl old ↦ ap (renamed (class_of es e.left) (class_of es e.right))
-      (joined_class es a b (joined_once es a b (inr old)))
-  | inr new ↦ elim (Contains-cons_cases e [] _ new) [
-    | inl is ↦ both_names (ap (λ (x : Equality). x.left) is) (ap (λ (x : Equality). x.right) is)
-    | inr r ↦ absurd (Contains-nil _ r)
-  ]
-]
-  where
-    both_names : e.left ≡ b → e.right ≡ a → name_after es e a ≡ name_after es e b
-    both_names p q =
-        ap (name_after es e) (sym q)
-        ∙ (renamed_right (class_of es e.left) (class_of es e.right)
-        ∙ (sym (renamed_left (class_of es e.left) (class_of es e.right)) ∙ ap (name_after es e) p))
+
+-- an equality joins two parameters both ways
+step_name : (es : List Equality) (e : Equality) (a b : ℕ) → AreEquated (es ++ e ∷ []) a b
+    → name_after es e a ≡ name_after es e b
+step_name es e a b (inl h) = equated_name es e a b h
+step_name es e a b (inr h) = sym (equated_name es e b a h)
 
 chain_name : (es : List Equality) (e : Equality) (a : ℕ) (rest : List ℕ) (b : ℕ)
     → IsChain (es ++ e ∷ []) a rest b → name_after es e a ≡ name_after es e b
 chain_name es e a [] b p = ap (name_after es e) p
-chain_name es e a (c ∷ rest) b p = equated_name es e a c p.0 ∙ chain_name es e c rest b p.1
+chain_name es e a (c ∷ rest) b p = step_name es e a c p.0 ∙ chain_name es e c rest b p.1
 
 -- a parameter is joined to the name of its class
 name_joined : (es : List Equality) (e : Equality) (p : ℕ) → AreJoined (es ++ e ∷ []) p (name_after es e p)

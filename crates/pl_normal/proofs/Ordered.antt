@@ -37,7 +37,7 @@ use Rattle.pl_normal.specs.declared.form.Source.TheVariants as source
 use Rattle.pl_normal.specs.Classes.{equalities, class_of}
 use Rattle.pl_normal.specs.Slots.{class_slot, parameter_slots, slot_at, slot_of, slots_of, are_fixed}
 use Rattle.pl_normal.specs.Slots.{class_bit, with_class, class_set}
-use Rattle.pl_normal.specs.Edges.{type_edge, type_edges, literal_edge, atom_edges, edges_of, sets_of}
+use Rattle.pl_normal.specs.Edges.{type_edge, literal_edge, edges_of, sets_of}
 use Rattle.pl_normal.specs.EarRemoval.{ear_removal}
 use Rattle.pl_normal.specs.ParameterOrder.{is_among, then_others, classes_in_order, parameter_order}
 use Rattle.pl_normal.specs.Laws.{IsOrderOfAll}
@@ -45,7 +45,7 @@ use Rattle.pl_normal.proofs.Joined.{class_of-within, class_of-class}
 use Rattle.pl_normal.proofs.Lists.{one_passes, passing_one}
 use Rattle.pl_normal.proofs.Removing.{ear_removal-is, ear_removal-edges}
 use Rattle.pl_normal.proofs.SlotLemmas.{slot_of_class, slot_is, parameter_slots-length}
-use Rattle.pl_normal.proofs.Answering.{type_edge_among}
+use Rattle.pl_normal.proofs.Answering.{type_edge_among, with_edge}
 use Rattle.pl_hyper.proofs.ClassOrders.{walk_contains}
 
 -- ---- sets of classes
@@ -190,31 +190,9 @@ type_unfixed schema p (Class d) e c at below held h =
 -- a class of an edge is unfixed
 pub class_unfixed : (schema : Schema) (e : Edge) (c : ℕ) → Contains (edges_of schema) e
     → bit_at e.classes c ≡ 1 → IsUnfixed schema c
-unfolding edges_of type_edges atom_edges
-class_unfixed schema e c held h =
-    elim (Contains-append_cases (type_edges (parameter_slots schema))
-    (atom_edges (parameter_slots schema) schema.condition) e held) [
-      | inl first ↦ of_type
-          (Contains-from_flat_map (λ q. type_edge q (slot_at (parameter_slots schema) q))
-          (range_with_len 0 (length (parameter_slots schema))) e first)
-      | inr second ↦ of_atom
-          (Contains-from_flat_map (literal_edge (parameter_slots schema)) schema.condition e second)
-    ]
-  where
-    below : (p : ℕ) → Contains (range_with_len 0 (length (parameter_slots schema))) p
-        → p < length schema.parameters
-    below p k =
-        let low = within_range (length (parameter_slots schema)) p k in
-        let long = parameter_slots-length schema in omega arith
-
-    of_type : (p : ℕ) × Contains (range_with_len 0 (length (parameter_slots schema))) p
-        × Contains (type_edge p (slot_at (parameter_slots schema) p)) e → IsUnfixed schema c
-    of_type (p, among, is) = type_unfixed schema p (slot_at (parameter_slots schema) p) e c refl
-        (below p among) is h
-
-    of_atom : (l : Literal) × Contains schema.condition l
-        × Contains (literal_edge (parameter_slots schema) l) e → IsUnfixed schema c
-    of_atom (l, among, is) = literal_unfixed schema l e c is h
+class_unfixed schema e c held h = with_edge schema e held
+    (λ p below is. type_unfixed schema p (slot_at (parameter_slots schema) p) e c refl below is h)
+    (λ l among is. literal_unfixed schema l e c is h)
 
 -- ---- class order
 

@@ -1,7 +1,7 @@
 -- The relations of edges: what their filters let pass, and the list of those that are made.
 use Rattle.std.proofs.Common.{◌≡◌, ℕ, ◌+◌, ◌<◌, ◌≤◌, ◌↔◌, ◌⊎◌, inl, inr, Bool, true, false, not, IsTrue, List}
 use Rattle.std.proofs.Common.{[], ◌∷◌, ◌++◌, length, take, get_or, refl, sym, ◌∙◌, ap, subst, arith, Contains}
-use Rattle.std.proofs.Common.{eq-eqb, ne_eqb}
+use Rattle.std.proofs.Common.{All, eq-eqb, ne_eqb}
 use Rattle.std.proofs.lemmas.Bool.{false≢true}
 use Rattle.std.proofs.lemmas.List.{take_more, take_all, get_or_default, length-append}
 use Rattle.std.proofs.Math.ListN.{get_or-append}
@@ -12,7 +12,7 @@ use Rattle.pl_task.specs.States.{State}
 use Rattle.pl_join.specs.declared.slot.Slot.{Slot}
 use Rattle.pl_join.specs.declared.slot.Slot.TheVariants.{Class}
 use Rattle.pl_join.specs.Relation.{Assignment, ClassRows, Holds, IsRelation, IsSelectionOf}
-use Rattle.pl_join.specs.Relation.{AreUnequalOf, AreAbsentOf, slot_value}
+use Rattle.pl_join.specs.Relation.{AreUnequalOf, AreAbsentOf, IsSlotBelow, slot_value}
 use Rattle.pl_reduce.specs.Plan.{relation_at}
 use Rattle.pl_normal.specs.declared.form.Edge.{Edge}
 use Rattle.pl_normal.specs.declared.form.Placed.{Placed}
@@ -76,17 +76,22 @@ absent_passes s x p slots given rows relation kept is same members absent f =
 
 -- ---- an edge as it is read
 
-pub edge_given : (task : Task) (schema : Schema) (edges given : List Edge) (e : ℕ) (edge : Edge) →
-    SchemaOf task schema → edges ≡ edges_of schema → given ≡ edges → e < length edges →
-    edge ≡ get_or given e edge → IsEdgeOf task schema edge
-edge_given task schema edges given e edge is same read low at =
-    subst (IsEdgeOf task schema) (sym (at ∙ ap (λ xs. get_or xs e edge) read))
-    (edges_are task schema edges is same e edge low)
-
 pub edge_here : (edges given : List Edge) (e : ℕ) (edge : Edge) → given ≡ edges → e < length edges →
     edge ≡ get_or given e edge → edge ≡ edge_at edges e
 edge_here edges given e edge read low at = at ∙ (ap (λ xs. get_or xs e edge) read ∙ get_or_default edges e
     edge no_edge low)
+
+pub edge_given : (task : Task) (schema : Schema) (edges : List Edge) (e : ℕ) (edge : Edge) →
+    SchemaOf task schema → edges ≡ edges_of schema → e < length edges → edge ≡ edge_at edges e →
+    IsEdgeOf task schema edge
+edge_given task schema edges e edge is same low here = subst (IsEdgeOf task schema) (sym here)
+    (edges_are task schema edges is same e no_edge low)
+
+pub slots_here : (task : Task) (schema : Schema) (edges : List Edge) (e : ℕ) (slots : List Slot) →
+    SchemaOf task schema → edges ≡ edges_of schema → e < length edges → slots ≡ (edge_at edges e).slots →
+    All (IsSlotBelow 64) slots
+slots_here task schema edges e slots is same low own = subst (All (IsSlotBelow 64)) (sym own)
+    (edge_given task schema edges e (edge_at edges e) is same low refl).below
 
 pub same_arity : (task : Task) (schema : Schema) (x : Source) (n m : ℕ) → IsSourceOf task schema x →
     IsArityOf task x n → IsArityOf task x m → n ≡ m
@@ -95,20 +100,18 @@ same_arity task schema (source.Predicate p) n m of ours theirs =
     values_wide task p n m (of.predicate p refl) (λ d found. ours.predicate p d refl found)
     (λ d found. theirs.predicate p d refl found)
 
-pub first_sieved : (task : Task) (schema : Schema) (s : State) (edges given : List Edge) (e : ℕ)
-    (edge : Edge) (rows : List (List ℕ)) (slots : List Slot) (relation : ClassRows) → SchemaOf task schema →
-    edges ≡ edges_of schema → given ≡ edges →
-    e < length edges → edge ≡ get_or given e edge → slots ≡ edge.slots →
-    ((row : List ℕ) → Contains rows row ↔ IsTrue (is_in_source task schema s edge.source row)) →
+pub first_sieved : (task : Task) (schema : Schema) (s : State) (edges : List Edge) (e : ℕ)
+    (rows : List (List ℕ)) (slots : List Slot) (relation : ClassRows) → SchemaOf task schema →
+    edges ≡ edges_of schema → e < length edges → slots ≡ (edge_at edges e).slots →
+    ((row : List ℕ) → Contains rows row
+    ↔ IsTrue (is_in_source task schema s (edge_at edges e).source row)) →
     ((c : ℕ) → Contains relation.classes c ↔ Contains slots (Class c)) → IsSelectionOf rows slots relation →
     IsSieved task schema s (edge_at edges e) e [] relation
-first_sieved task schema s edges given e edge rows slots relation is same read low at own members classes
-    selection =
-    subst (λ (x : Edge). IsSieved task schema s x e [] relation) (edge_here edges given e edge read low at)
-    (selected task schema s e edge rows relation (edge_given task schema edges given e edge is same read low
-    at) members
+first_sieved task schema s edges e rows slots relation is same low own members classes selection =
+    selected task schema s e (edge_at edges e) rows relation
+    (edge_given task schema edges e (edge_at edges e) is same low refl) members
     (subst (λ xs. (c : ℕ) → Contains relation.classes c ↔ Contains xs (Class c)) own classes)
-    (subst (λ xs. IsSelectionOf rows xs relation) own selection))
+    (subst (λ xs. IsSelectionOf rows xs relation) own selection)
 
 pub over_here : (task : Task) (schema : Schema) (s : State) (edges : List Edge) (e i : ℕ)
     (local : List Placed) (placed : Placed) (relation : ClassRows) → local ≡ local_of schema →

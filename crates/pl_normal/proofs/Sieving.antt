@@ -1,6 +1,6 @@
 -- How many rows the relation of an edge has, and how many probes it takes.
-use Rattle.std.proofs.Common.{◌≡◌, ℕ, ◌+◌, ◌*◌, ◌<◌, ◌≤◌, ◌↔◌, IsTrue, List, length, get_or, ◌∙◌, ap, subst}
-use Rattle.std.proofs.Common.{arith, Contains}
+use Rattle.std.proofs.Common.{◌≡◌, ℕ, ◌+◌, ◌*◌, ◌<◌, ◌≤◌, ◌↔◌, IsTrue, List, length, subst}
+use Rattle.std.proofs.Common.{arith, Contains, Result, Ok, Err, IfOk}
 use Rattle.std.specs.List.{list_all}
 use Rattle.std.proofs.lemmas.List.Elements.{Contains-get_or}
 use Rattle.pl_rows.specs.Rows.{Rows}
@@ -18,35 +18,26 @@ use Rattle.pl_normal.specs.Queries.{AreEdgeRows, IsEdgeOf, IsSieved, edge_at, le
 use Rattle.pl_normal.proofs.Edging.{and_split}
 use Rattle.pl_normal.proofs.Few.{rows_within, table_few, relation_few}
 use Rattle.pl_normal.proofs.Forms.{SchemaOf, edge_of, no_edge}
-use Rattle.pl_normal.proofs.Relating.{edge_here}
 use Rattle.std.proofs.Math.Nat.{mul-le-mul_right}
 
 -- ---- the relation of an edge as it is made
 
 module _ (task : Task) (schema : Schema) (s : State) where
-  the_edge : (edges given : List Edge) (e : ℕ) (edge : Edge) → edges ≡ edges_of schema → given ≡ edges →
-      e < length edges → edge ≡ get_or given e edge → edge ≡ edge_at (edges_of schema) e
-  the_edge edges given e edge same read low at = edge_here edges given e edge read low at ∙ ap
-      (λ xs. edge_at xs e) same
-
-  pub source_within : (edges given : List Edge) (e : ℕ) (edge : Edge) (table : Rows) →
-      edges ≡ edges_of schema → given ≡ edges → e < length edges → edge ≡ get_or given e edge →
+  pub source_within : (e : ℕ) (edge : Edge) (table : Rows) → edge ≡ edge_at (edges_of schema) e →
       HasObjectRows (length task.objects) table →
       ((row : List ℕ) → Contains table.rows row ↔ IsTrue (is_in_source task schema s edge.source row)) →
       AreEdgeRows task schema s (edge_at (edges_of schema) e)
-  source_within edges given e edge table same read low at is rows =
-      subst (AreEdgeRows task schema s) (the_edge edges given e edge same read low at)
+  source_within e edge table here is rows = subst (AreEdgeRows task schema s) here
       (rows_within task schema s edge table is rows)
 
-  pub source_few : (edges given : List Edge) (e : ℕ) (edge : Edge) (table : Rows) →
-      edges ≡ edges_of schema → given ≡ edges → e < length edges → edge ≡ get_or given e edge →
+  pub source_few : (e : ℕ) (edge : Edge) (table : Rows) → edge ≡ edge_at (edges_of schema) e →
       HasObjectRows (length task.objects) table →
       ((row : List ℕ) → Contains table.rows row ↔ IsTrue (is_in_source task schema s edge.source row)) →
-      length edge.slots ≡ table.arity → length table.rows ≤ edge_rows task schema s
-      (edge_at (edges_of schema) e)
-  source_few edges given e edge table same read low at is rows wide =
-      subst (λ (x : Edge). length table.rows ≤ edge_rows task schema s x)
-      (the_edge edges given e edge same read low at) (table_few task schema s edge table is rows wide)
+      length edge.slots ≡ table.arity →
+      length table.rows ≤ edge_rows task schema s (edge_at (edges_of schema) e)
+  source_few e edge table here is rows wide =
+      subst (λ (x : Edge). length table.rows ≤ edge_rows task schema s x) here
+      (table_few task schema s edge table is rows wide)
 
   pub sieved_few : (edges : List Edge) (e : ℕ) (passed : List Placed) (relation : ClassRows) →
       SchemaOf task schema → edges ≡ edges_of schema → e < length edges →
@@ -86,6 +77,9 @@ filters_taken first after i many local most filters low same = let all =
     omega (arith, filters, all)
 
 -- the selection and all filters
-pub edge_taken : (start first after rows most filters : ℕ) → first ≤ start + rows → rows ≤ most →
-    after ≤ first + filters → after ≤ start + (most + filters)
-edge_taken start first after rows most filters selected few passed = omega (arith, selected, few, passed)
+pub edge_taken : {T E : Type 0} (result : Result T E) (start first after rows most filters : ℕ) →
+    first ≤ start + rows → rows ≤ most → IfOk result (λ _. after ≤ first + filters) →
+    IfOk result (λ _. after ≤ start + (most + filters))
+edge_taken (Ok r) start first after rows most filters selected few passed =
+    omega (arith, selected, few, passed)
+edge_taken (Err e) start first after rows most filters selected few passed = tt

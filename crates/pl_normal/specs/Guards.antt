@@ -16,6 +16,8 @@ use Rattle.pl_join.specs.declared.slot.Slot.{Slot}
 use Rattle.pl_join.specs.declared.slot.Slot.TheVariants.{Fixed, Class}
 use Rattle.pl_normal.specs.declared.form.Guard.{Guard}
 use Rattle.pl_normal.specs.declared.form.Guard.TheVariants as guard
+use Rattle.pl_normal.specs.declared.guards.Sign.{Sign}
+use Rattle.pl_normal.specs.declared.guards.Sign.TheVariants as sign
 use Rattle.pl_normal.specs.Slots.{parameter_slots, slot_at, slot_of, slots_of, are_fixed, fixed_value}
 
 -- Guards: the types of each fixed parameter, then each literal without an unfixed class, in reading order.
@@ -43,6 +45,11 @@ types_at parameters p = get_or (map (λ (parameter : Parameter). parameter.types
 unfoldable pub type_guards : Task → List Parameter → List Slot → List Guard
 type_guards task parameters slots = flat_map (λ p. type_guard task (types_at parameters p) (slot_at slots p))
     (range_with_len 0 (length slots))
+
+-- whether a literal of this sign wants its atom or its equality true
+abbrev pub is_positive : Sign → Bool
+is_positive sign.Positive = true
+is_positive sign.Negative = false
 
 abbrev pub wanted_guard : Bool → Atom → Guard
 wanted_guard true atom = guard.Holds atom

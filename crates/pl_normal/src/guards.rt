@@ -4,7 +4,8 @@ ghost use Rattle.std.specs.Prelude.{◌≡◌, ◌<◌, ◌++◌, ◌==◌, leng
 ghost use Rattle.pl_task.specs.WellFormed.{IsLiteralOf, IsLiftedOf};
 ghost use Rattle.pl_task.specs.declared.data.Parameter.{Parameter as ParameterOf};
 ghost use Rattle.pl_task.specs.declared.data.PredicateDef.{PredicateDef as PredicateOf};
-ghost use Rattle.pl_normal.specs.Guards.{known, is_as_wanted, wanted_guard, atom_guard, has_some_type};
+ghost use Rattle.pl_normal.specs.Guards.{known, is_positive, is_as_wanted, wanted_guard, atom_guard};
+ghost use Rattle.pl_normal.specs.Guards.{has_some_type};
 ghost use Rattle.pl_normal.specs.Guards.{type_guard, type_guards, guard_over, equality_guard, literal_guard};
 ghost use Rattle.pl_normal.specs.Guards.{literal_guards};
 ghost use Rattle.pl_normal.specs.Scope.{IsSlotOf, IsLiteralBelow};
@@ -18,6 +19,15 @@ use pl_join::Slot;
 use pl_rows::Table;
 use pl_task::{Atom, Lifted, List, Literal, Parameter, Task};
 use std::alloc::{AllocError, Global};
+
+/// Whether a literal wants its atom or its equality true or false.
+#[derive(Clone, Copy)]
+pub enum Sign {
+    /// It is wanted true.
+    Positive,
+    /// It is wanted false.
+    Negative,
+}
 
 /// The guards of a schema, but for those that are true in every state. `slots` are those of the parameters.
 pub fn guards(
@@ -134,16 +144,27 @@ fn add_literal_guard(
         ++ literal_guard task.now slots.now literal.now) }
 {
     match literal {
-        Literal::Atom(atom) => add_atom_guard(alloc, task, statics, guards, slots, true, atom),
-        Literal::NotAtom(atom) => add_atom_guard(alloc, task, statics, guards, slots, false, atom),
-        Literal::Equal(a, b) => add_equality_guard(
-            guards,
-            true,
-            slot_of(slots, *a),
-            slot_of(slots, *b),
-        ),
+        Literal::Atom(atom) => {
+            add_atom_guard(alloc, task, statics, guards, slots, Sign::Positive, atom)
+        }
+        Literal::NotAtom(atom) => {
+            add_atom_guard(alloc, task, statics, guards, slots, Sign::Negative, atom)
+        }
+        Literal::Equal(a, b) => {
+            add_equality_guard(
+                guards,
+                Sign::Positive,
+                slot_of(slots, *a),
+                slot_of(slots, *b),
+            )
+        }
         Literal::NotEqual(a, b) => {
-            add_equality_guard(guards, false, slot_of(slots, *a), slot_of(slots, *b))
+            add_equality_guard(
+                guards,
+                Sign::Negative,
+                slot_of(slots, *a),
+                slot_of(slots, *b),
+            )
         }
     }
 }
@@ -151,11 +172,11 @@ fn add_literal_guard(
 /// Appends the guard of two fixed slots, whose objects are wanted equal or different.
 fn add_equality_guard(
     guards: &mut Vec<Guard>,
-    wanted: bool,
+    sign: Sign,
     a: Slot,
     b: Slot,
 ) -> Result<(), AllocError>
-    ensures { OnOk result (guards.new.items ≡ guards.old.items ++ equality_guard wanted a b) }
+    ensures { OnOk result (guards.new.items ≡ guards.old.items ++ equality_guard (is_positive sign) a b) }
 {
     match a {
         Slot::Class(_) => match b {
@@ -164,16 +185,19 @@ fn add_equality_guard(
         },
         Slot::Fixed(a) => match b {
             Slot::Class(_) => Ok(()),
-            Slot::Fixed(b) => add_known(guards, is_as_wanted(wanted, a == b)),
+            Slot::Fixed(b) => add_known(guards, is_as_wanted(sign, a == b)),
         },
     }
 }
 
 /// Whether something is there just where it is wanted.
-fn is_as_wanted(wanted: bool, there: bool) -> bool
-    ensures { result ≡ is_as_wanted wanted there }
+fn is_as_wanted(sign: Sign, there: bool) -> bool
+    ensures { result ≡ is_as_wanted (is_positive sign) there }
 {
-    if wanted { there } else { !there }
+    match sign {
+        Sign::Positive => there,
+        Sign::Negative => !there,
+    }
 }
 
 /// Appends the guard of an atom without a class, which is wanted true or false.
@@ -183,13 +207,13 @@ fn add_atom_guard(
     statics: &[Option<Table>],
     guards: &mut Vec<Guard>,
     slots: &[Slot],
-    wanted: bool,
+    sign: Sign,
     atom: &Lifted,
 ) -> Result<(), AllocError>
     requires statics { AreStatics task.now statics.now }
     requires atom { IsLiftedOf task.now.predicates (length task.now.objects) (length slots.now) atom.now }
     ensures { OnOk result (guards.new.items
-        ≡ guards.old.items ++ guard_over task.now wanted atom.now.predicate
+        ≡ guards.old.items ++ guard_over task.now (is_positive sign) atom.now.predicate
         (slots_of slots.now atom.now.terms)) }
 {
     let row = slots_of(alloc, slots, atom.terms.as_slice())?;
@@ -197,7 +221,7 @@ fn add_atom_guard(
         return Ok(());
     }
     let objects = fixed_values(alloc, &row)?;
-    add_ground_guard(task, statics, guards, wanted, atom.predicate, objects)
+    add_ground_guard(task, statics, guards, sign, atom.predicate, objects)
 }
 
 /// Appends the guard of a ground atom. The initial atoms decide it where its predicate is static.
@@ -205,7 +229,7 @@ fn add_ground_guard(
     task: &Task,
     statics: &[Option<Table>],
     guards: &mut Vec<Guard>,
-    wanted: bool,
+    sign: Sign,
     predicate: u32,
     objects: Vec<u32>,
 ) -> Result<(), AllocError>
@@ -214,25 +238,25 @@ fn add_ground_guard(
     requires arity { (d : PredicateOf) → slice_get task.now.predicates predicate ≡ Some d
         → length objects.items ≡ d.arity }
     ensures { OnOk result (guards.new.items
-        ≡ guards.old.items ++ atom_guard task.now wanted (row_atom predicate objects.items)) }
+        ≡ guards.old.items ++ atom_guard task.now (is_positive sign)
+        (row_atom predicate objects.items)) }
 {
     match &statics[predicate as usize] {
-        Some(table) => add_known(guards, is_as_wanted(wanted, has_row(table, &objects))),
+        Some(table) => add_known(guards, is_as_wanted(sign, has_row(table, &objects))),
         None => {
             let objects = List::of(objects);
-            guards.push(wanted_guard(wanted, Atom { predicate, objects }))?;
+            guards.push(wanted_guard(sign, Atom { predicate, objects }))?;
             Ok(())
         }
     }
 }
 
 /// The guard of an atom over a fluent predicate.
-fn wanted_guard(wanted: bool, atom: Atom) -> Guard
-    ensures { result ≡ wanted_guard wanted atom }
+fn wanted_guard(sign: Sign, atom: Atom) -> Guard
+    ensures { result ≡ wanted_guard (is_positive sign) atom }
 {
-    if wanted {
-        Guard::Holds(atom)
-    } else {
-        Guard::Absent(atom)
+    match sign {
+        Sign::Positive => Guard::Holds(atom),
+        Sign::Negative => Guard::Absent(atom),
     }
 }

@@ -11,6 +11,7 @@ ghost use Rattle.pl_task.specs.declared.data.PredicateDef.{PredicateDef as Predi
 ghost use Rattle.pl_hyper.specs.JoinTree.{IsAcyclic};
 ghost use Rattle.pl_reduce.specs.Passes.{total_rows};
 ghost use Rattle.pl_reduce.specs.Recipes.{AreGiven, relations_with};
+ghost use Rattle.pl_normal.specs.Classes.{parameter_classes};
 ghost use Rattle.pl_normal.specs.Edges.{edges_of, sets_of};
 ghost use Rattle.pl_normal.specs.Filters.{local_of};
 ghost use Rattle.pl_normal.specs.Measures.{relation_rows};
@@ -18,6 +19,7 @@ ghost use Rattle.pl_normal.specs.Recipes.{AreNodesAt, IsRecipeFor};
 ghost use Rattle.pl_normal.specs.StateTables.{AreTables, HasObjectRows, state_of_tables};
 ghost use Rattle.pl_normal.specs.EarRemoval.{ear_removal};
 ghost use Rattle.pl_normal.specs.NormalForm.{IsNormalForm};
+ghost use Rattle.pl_normal.specs.Slots.{parameter_slots};
 ghost use Rattle.pl_normal.specs.StepOrder.{step_cmp, read_in};
 ghost use Rattle.pl_normal.specs.Guards.{types_at};
 ghost use Rattle.pl_normal.specs.Tables.{AreStatics, IsAtomTable, IsTypeTable, row_atom};
@@ -34,7 +36,7 @@ use crate::query::{Query, true_atoms};
 use crate::recipes::{given_for, recipes};
 use crate::tables::static_tables;
 use pl_hyper::{EarPlan, ears};
-use pl_join::Relation;
+use pl_join::{Relation, Slot};
 use pl_reduce::Recipe;
 use pl_rows::Table;
 use pl_steps::Steps;
@@ -117,10 +119,7 @@ fn normal_schema(
     let parameters = schema.parameters.as_slice();
     let condition = schema.condition.as_slice();
     let classes = parameter_classes(alloc, schema)?;
-    let names = classes.as_slice();
-    let found = fixings(alloc, condition)?;
-    let given = found.as_slice();
-    let made = class_slots(alloc, names, given)?;
+    let made = parameter_slots(alloc, task, schema, classes.as_slice())?;
     let slots = made.as_slice();
     let fixed = slot_objects(alloc, slots)?;
     let edges = edges(alloc, slots, condition)?;
@@ -139,6 +138,21 @@ fn normal_schema(
         plan,
         order: List::of(order),
     })
+}
+
+/// The slots of a schema's parameters, which have these classes.
+fn parameter_slots(
+    alloc: Global,
+    _task: &Task,
+    schema: &Schema,
+    classes: &[u32],
+) -> Result<Vec<Slot>, AllocError>
+    requires schema { IsSchemaOf _task.now.types _task.now.objects _task.now.predicates schema.now }
+    requires classes { classes.now ≡ parameter_classes schema.now }
+    ensures { IfOk result (λ v. v.items ≡ parameter_slots schema.now) }
+{
+    let found = fixings(alloc, schema.condition.as_slice())?;
+    class_slots(alloc, classes, found.as_slice())
 }
 
 /// The removal of ears from the edges.

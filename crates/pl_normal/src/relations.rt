@@ -1,19 +1,21 @@
 //! The relations of the edges of a schema's query in a state.
 
-ghost use Rattle.std.specs.Prelude.{◌≡◌, ◌≤◌, ◌<◌, ◌+◌, ◌*◌, ◌↔◌, [], All, length, IfOk, IsTrue};
+ghost use Rattle.std.specs.Prelude.{◌≡◌, ◌≤◌, ◌<◌, ◌+◌, ◌*◌, ◌↔◌, ℕ, List, [], All, Contains, length};
+ghost use Rattle.std.specs.Prelude.{IfOk, IsTrue};
 ghost use Rattle.std.specs.List.{AllPairs, sum_by};
-ghost use Rattle.pl_join.specs.Relation.{Assignment, Holds, IsRelation, classes_in};
+ghost use Rattle.pl_join.specs.Relation.{Assignment, Holds, IsRelation, IsSlotBelow, classes_in};
 ghost use Rattle.pl_normal.specs.Asked.{IsQuery, task_in, schema_in, state_asked, source_rows};
 ghost use Rattle.pl_normal.specs.Edges.{edges_of};
 ghost use Rattle.pl_normal.specs.NormalForm.{IsNormalForm};
 ghost use Rattle.pl_normal.specs.Queries.{IsRelationAt, AreRelationsAt, IsSieveOf, IsSieveOver, IsSieved};
 ghost use Rattle.pl_normal.specs.Queries.{AreEdgeRows, edge_at, sieved_probes};
-ghost use Rattle.pl_normal.specs.Query.{meets_sieve};
+ghost use Rattle.pl_normal.specs.Query.{is_in_source, meets_sieve};
 
-use crate::form::{NormalSchema, Sieve};
+use crate::form::{Edge, NormalSchema, Sieve};
 use crate::query::{Query, source_table, true_atoms};
 use pl_join::laws::relation_is_one;
-use pl_join::{Relation, filter_absent, filter_unequal, select, select_in_order};
+use pl_join::{Relation, Slot, filter_absent, filter_unequal, select, select_in_order};
+use pl_rows::Table;
 use pl_steps::Steps;
 use std::alloc::{AllocError, Global};
 use std::sync::ledger::Ledger;
@@ -61,9 +63,9 @@ pub fn edge_relation<L: Ledger>(
         (λ _. steps.new ≤ steps.old + sieved_probes form.now (source_rows query.now number)) }
     ensures rise { steps.old ≤ steps.new }
 {
-    let edge = &form.edges.as_slice()[number as usize];
-    let table = source_table(query, edge.source);
-    let selected = select(alloc, table, edge.slots.as_slice(), steps)?;
+    let table = edge_table(query, form, number);
+    let slots = edge_slots(query, form, number);
+    let selected = select(alloc, table, slots, steps)?;
     passing_rows(alloc, query, form, number, selected, steps)
 }
 
@@ -87,11 +89,46 @@ pub fn ordered_relation<L: Ledger>(
         (λ _. steps.new ≤ steps.old + sieved_probes form.now (source_rows query.now number)) }
     ensures rise { steps.old ≤ steps.new }
 {
-    let edge = &form.edges.as_slice()[number as usize];
-    let table = source_table(query, edge.source);
+    let table = edge_table(query, form, number);
+    let slots = edge_slots(query, form, number);
     let order = form.order.as_slice();
-    let selected = select_in_order(alloc, table, edge.slots.as_slice(), order, steps)?;
+    let selected = select_in_order(alloc, table, slots, order, steps)?;
     passing_rows(alloc, query, form, number, selected, steps)
+}
+
+/// The edge with a number.
+fn edge_of(form: &NormalSchema, number: u32) -> &Edge
+    requires { number < length form.now.edges }
+    ensures { result.now ≡ edge_at form.now.edges number }
+{
+    &form.edges.as_slice()[number as usize]
+}
+
+/// The slots of an edge.
+fn edge_slots<'f>(_query: &Query<'_>, form: &'f NormalSchema, number: u32) -> &'f [Slot]
+    requires query { IsQuery _query.now }
+    requires form { IsNormalForm (task_in _query.now) (schema_in _query.now) form.now }
+    requires number { number < length form.now.edges }
+    ensures slots { result.now ≡ (edge_at form.now.edges number).slots }
+    ensures below { All (IsSlotBelow 64) result.now }
+{
+    edge_of(form, number).slots.as_slice()
+}
+
+/// The table of an edge's source: a value for each slot, and no more rows than are counted for the edge.
+fn edge_table<'a>(query: &Query<'a>, form: &NormalSchema, number: u32) -> &'a Table
+    requires query { IsQuery query.now }
+    requires form { IsNormalForm (task_in query.now) (schema_in query.now) form.now }
+    requires number { number < length form.now.edges }
+    ensures width { length (edge_at form.now.edges number).slots ≡ result.now.arity }
+    ensures rows { (row : List ℕ) → Contains result.now.rows row
+        ↔ IsTrue (is_in_source (task_in query.now) (schema_in query.now) (state_asked query.now)
+        (edge_at form.now.edges number).source row) }
+    ensures objects { AreEdgeRows (task_in query.now) (schema_in query.now) (state_asked query.now)
+        (edge_at (edges_of (schema_in query.now)) number) }
+    ensures few { length result.now.rows ≤ source_rows query.now number }
+{
+    source_table(query, edge_of(form, number).source)
 }
 
 /// The rows of an edge's selection that its local filters let pass. It takes at most two probes a row for
