@@ -8,7 +8,7 @@ use Rattle.pl_top.specs.declared.refusal.Refusal.TheVariants as refused
 use Rattle.pl_check.specs.declared.role.FileRole.{FileRole}
 use Rattle.pl_top.specs.Answer.{Outcome, Reading, Absent, Overlong, Whole, IsReadingOf, GoesOn, IsRead}
 use Rattle.pl_top.specs.Answer.{IsAnswer, cannot_read, too_long}
-use Rattle.pl_top.specs.Refusal.{outcome_of, HasBegun, IsForced, IsOfLast, IsRefused, IsUnread}
+use Rattle.pl_top.specs.Refusal.{outcome_of, HasBegun, IsForced, IsOfLast, IsRefused, IsUnanswered, IsUnread}
 use Rattle.pl_top.specs.Request.{Request, names_of, roles_of, name_of}
 use Rattle.pl_top.specs.Run.{EndsWith}
 
@@ -132,3 +132,18 @@ unread request count name role shelf mid shelf' r named ends begun before later 
       (begun.files ∙ sym before) leads h;
   last = of_last name role mid shelf' r _ ends h;
 }
+
+-- a request whose files have no answer to print is refused
+pub unanswered : (request : Request) (count : ℕ) (shelf shelf' : ShelfSeen) (IsOutcome : Outcome → Type 0)
+    (r : Refusal)
+    → HasBegun request count shelf shelf'
+    → ((outcome : Outcome) → IsOutcome outcome → IsAnswer request shelf.files shelf'.place outcome)
+    → IsUnanswered IsOutcome r → IsRefused request shelf shelf' r
+unanswered request count shelf shelf' IsOutcome (refused.CannotRead role) begun answers why = absurd why
+unanswered request count shelf shelf' IsOutcome (refused.TooLong role) begun answers why = absurd why
+unanswered request count shelf shelf' IsOutcome (refused.Input file line column kind) begun answers why =
+    record { count = count; begun = begun; cause = inl (answers _ why); last = tt }
+unanswered request count shelf shelf' IsOutcome refused.NotAStep begun answers why =
+    record { count = count; begun = begun; cause = inl (answers _ why); last = tt }
+unanswered request count shelf shelf' IsOutcome (refused.Memory error) begun answers why =
+    record { count = count; begun = begun; cause = inr tt; last = tt }

@@ -5,11 +5,14 @@ mod OptionLemmas
 mod ResultLemmas
 -- what the reading of a request's files comes to
 mod FileLemmas
+mod ReadLemmas
 mod ValidateLemmas
 -- from what the parts of a run did to how it ends
 mod RunLemmas
 -- the verdict that lines have
 mod VerdictLemmas
+-- the outcome of the bytes of a domain and a problem
+mod StatedLemmas
 -- what the lines of a plan come to where steps are listed after it
 mod WorkedLemmas
 -- the outcome of `successors` for the bytes of its files
@@ -22,14 +25,12 @@ mod ReachLemmas
 mod PutLemmas
 -- the steps of a list
 mod ListLemmas
--- the files of `successors`, and what a listing starts from
+-- what a listing starts from
 mod StartLemmas
-mod SuccessorsLemmas
 -- from what a listing did to how its run ends
 mod FinishLemmas
 -- how a search ended, and what is printed of that
 mod PlanLemmas
-mod PlanFileLemmas
 -- what an answer to `plan` says of the task
 mod PlannedLemmas
 mod SaysLemmas

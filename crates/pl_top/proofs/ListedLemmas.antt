@@ -8,13 +8,14 @@ use Rattle.pl_task.specs.declared.plan.PlanLine.{PlanLine}
 use Rattle.pl_task.specs.declared.plan.PlanLine.TheVariants as line
 use Rattle.pl_task.specs.declared.task.Task.{Task}
 use Rattle.pl_task.specs.Instance.{Instance}
-use Rattle.pl_check.specs.Laws.{FirstFaultIsOne, TaskIsOne, HaveFirstFault, HaveTask, FaultOrTask}
+use Rattle.pl_check.specs.Laws.{FirstFaultIsOne, TaskIsOne, FaultOrTask}
 use Rattle.pl_check.specs.Laws.{FaultExcludesTask, LinesAreOne, PlanFaultIsOne, HasPlanFault, HasLines}
 use Rattle.pl_check.specs.Laws.{FaultOrLines, FaultExcludesLines}
 use Rattle.pl_check.specs.PlanLines.{AreLines, IsStepText}
 use Rattle.pl_print.specs.declared.fault.Fault.TheVariants as fault
 use Rattle.pl_top.specs.Answer.{Outcome, IsFaultOfAny, AreLinesOfAny, IsNoStep, IsStepOfText, IsPastStep}
-use Rattle.pl_top.specs.Answer.{IsListOfLines, IsWorked, IsListed, bytes_of, faulty, refusal}
+use Rattle.pl_top.specs.Answer.{IsListOfLines, IsTaskListed, IsWorked, IsListed, faulty, refusal}
+use Rattle.pl_top.proofs.StatedLemmas.{input_one, input_there}
 use Rattle.pl_top.proofs.WorkedLemmas.{worked_one, worked_there}
 
 -- ---- one at most
@@ -109,20 +110,11 @@ module _ (first_one : FirstFaultIsOne) (task_one : TaskIsOne) (excludes_task : F
   pub listed_one : (domain problem : List ℕ) (plan text : Option (List ℕ)) (count : Option ℕ)
       (outcome other : Outcome) → IsListed domain problem plan text count outcome →
       IsListed domain problem plan text count other → outcome ≡ other
-  listed_one domain problem plan text count outcome other (inl h) (inl k) =
-      h.comes ∙
-      ap (λ found. faulty (bytes_of domain problem found.file) found)
-      (first_one domain problem h.found k.found h.is_first k.is_first) ∙
-      sym k.comes
-  listed_one domain problem plan text count outcome other (inl h) (inr k) =
-      absurd (excludes_task domain problem h.found k.task h.is_first k.stated)
-  listed_one domain problem plan text count outcome other (inr h) (inl k) =
-      absurd (excludes_task domain problem k.found h.task k.is_first h.stated)
-  listed_one domain problem plan text count outcome other (inr h) (inr k) =
-      let same = task_one domain problem h.task k.task h.stated k.stated in
-      plan_listed k.task plan text count outcome other
-      (subst (λ t. IsFaultOfAny plan outcome ⊎ IsListOfLines t plan text count outcome) same h.listed)
-      k.listed
+  listed_one domain problem plan text count outcome other =
+      input_one first_one task_one excludes_task domain problem outcome other
+      (IsTaskListed domain problem plan text count)
+      (λ o task. IsFaultOfAny plan o ⊎ IsListOfLines task plan text count o)
+      (λ o h. (h.task, h.stated, h.listed)) (λ task. plan_listed task plan text count outcome other)
 
 -- ---- there is one
 
@@ -208,14 +200,6 @@ module _ (fault_or_lines : FaultOrLines) (excludes_lines : FaultExcludesLines) (
       (count : Option ℕ) → length domain ≤ most_file_bytes → length problem ≤ most_file_bytes → IsShort plan →
       (outcome : Outcome) × IsListed domain problem plan text count outcome
   listed_there fault_or_task domain problem plan text count dle ple lle =
-      by_files (fault_or_task domain problem dle ple)
-    where
-      by_files : HaveFirstFault domain problem ⊎ HaveTask domain problem →
-          (outcome : Outcome) × IsListed domain problem plan text count outcome
-      by_files (inl faulted) = (
-        faulty (bytes_of domain problem faulted.0.file) faulted.0,
-        inl (record { found = faulted.0; is_first = faulted.1; comes = refl }),
-      )
-      by_files (inr has) =
-          (let found = plan_there has.0 plan text count lle in
-          (found.0, inr (record { task = has.0; stated = has.1; listed = found.1 })))
+      input_there fault_or_task domain problem (IsTaskListed domain problem plan text count) dle ple
+      (λ task stated. (let found = plan_there task plan text count lle in
+      (found.0, record { task = task; stated = stated; listed = found.1 })))

@@ -11,13 +11,13 @@ use Rattle.pl_make.specs.declared.kind.Kind.{Kind}
 use Rattle.pl_make.specs.Texts.{domain_text, problem_text}
 use Rattle.pl_top.specs.Answer.{Outcome, IsInputFault, IsMadeOf, IsMadeOutcome}
 use Rattle.pl_top.specs.declared.refusal.Refusal.{Refusal}
-use Rattle.pl_top.specs.declared.refusal.Refusal.TheVariants as refused
 use Rattle.pl_top.specs.Planning.{IsDecisive, IsMadeSettled, IsOfTask, SaysOfMade}
 use Rattle.pl_top.specs.Refusal.{HasBegun, IsRefused, IsUnanswered, outcome_of, status_of as refusal_status}
 use Rattle.pl_top.specs.Request.{Request, Validate, Successors, FindPlan, Make, names_of}
 use Rattle.pl_top.specs.Run.{Ending, RunEnds, IsCause, IsLinePut, IsWritten, EndsWith, status_of, Answered}
 use Rattle.pl_top.specs.Run.{StoppedReading, StoppedWriting, OutOfMemory}
 use Rattle.pl_top.specs.Writing.{Finishes}
+use Rattle.pl_top.proofs.FileLemmas.{unanswered}
 use Rattle.pl_top.proofs.FinishLemmas.{finished_run}
 use Rattle.pl_top.proofs.MadeLemmas.{made_truth, made_settled}
 use Rattle.pl_top.proofs.RunLemmas.{refused_run}
@@ -46,14 +46,9 @@ made_run kind n start shelf out out' err err' result task stated =
 unmade : (kind : Kind) (n start : ℕ) (shelf : ShelfSeen) (r : Refusal) →
     IsUnanswered (IsInputFault (domain_text kind) (problem_text kind n start)) r
     → IsRefused (Make kind n start) shelf shelf r
-unmade kind n start shelf (refused.CannotRead role) why = absurd why
-unmade kind n start shelf (refused.TooLong role) why = absurd why
-unmade kind n start shelf (refused.Input file line column kind') why =
-    record { count = 0; begun = none_begun kind n start shelf; cause = inl (inl why); last = tt }
-unmade kind n start shelf refused.NotAStep why =
-    record { count = 0; begun = none_begun kind n start shelf; cause = inl (inl why); last = tt }
-unmade kind n start shelf (refused.Memory error) why =
-    record { count = 0; begun = none_begun kind n start shelf; cause = inr tt; last = tt }
+unmade kind n start shelf r =
+    unanswered (Make kind n start) 0 shelf shelf (IsInputFault (domain_text kind) (problem_text kind n start)) r
+    (none_begun kind n start shelf) (λ outcome why. inl why)
 
 pub unmade_run : (kind : Kind) (n start : ℕ) (shelf : ShelfSeen) (out out' err err' : SinkSeen) (result : ℕ)
     (r : Refusal) →

@@ -5,17 +5,18 @@ use Rattle.std.proofs.lemmas.Bool.{leb-true}
 use Rattle.pl_io.specs.Outside.{NamedBytes, content_of, most_file_bytes}
 use Rattle.pl_task.specs.declared.task.Task.{Task}
 use Rattle.pl_task.specs.States.{initial}
-use Rattle.pl_check.specs.Laws.{FirstFaultIsOne, TaskIsOne, HaveFirstFault, HaveTask, FaultOrTask}
+use Rattle.pl_check.specs.Laws.{FirstFaultIsOne, TaskIsOne, FaultOrTask}
 use Rattle.pl_check.specs.Laws.{FaultExcludesTask, LinesAreOne, PlanFaultIsOne, HasPlanFault, HasLines}
 use Rattle.pl_check.specs.Laws.{FaultOrLines, FaultExcludesLines}
+use Rattle.pl_check.specs.Stated.{AreStated}
 use Rattle.pl_check.specs.declared.role.FileRole.{FileRole}
 use Rattle.pl_check.specs.declared.role.FileRole.TheVariants.{Domain, Problem, Plan}
 use Rattle.pl_valid.specs.Verdict.{IsVerdict}
 use Rattle.pl_hooks.specs.Hopeless.{is_hopeless}
 use Rattle.pl_top.specs.Answer.{Outcome, Reading, IsMadeOutcome, Absent, Overlong, Whole, reading_of, GoesOn}
 use Rattle.pl_top.specs.Answer.{IsRead, IsPlanRead, IsFaultOfPlan, IsVerdictOn, IsJudged, IsListed, IsPlanned}
-use Rattle.pl_top.specs.Answer.{IsSearchOutcome, IsMadeOf, search_outcome, cannot_read, too_long, bytes_of}
-use Rattle.pl_top.specs.Answer.{faulty, verdict_outcome}
+use Rattle.pl_top.specs.Answer.{IsPlanJudged, IsTaskPlanned, IsTaskMade, IsSearchOutcome, IsMadeOf}
+use Rattle.pl_top.specs.Answer.{search_outcome, cannot_read, too_long, faulty, verdict_outcome}
 use Rattle.pl_top.specs.Laws.{OutcomeIsOne, OutcomeIsThere}
 use Rattle.pl_registry.proofs.SearchLaws.{endings_one, all_have_ending}
 use Rattle.pl_make.specs.Texts.{domain_text, problem_text}
@@ -24,6 +25,7 @@ use Rattle.pl_top.specs.Request.{PlanOptions, Validate, Successors, FindPlan, Ma
 use Rattle.pl_top.specs.Searching.{limit_of, search_of}
 use Rattle.pl_top.proofs.MadeLemmas.{made_search_one, made_search_there}
 use Rattle.pl_top.proofs.ListedLemmas.{IsShort, listed_one, listed_there}
+use Rattle.pl_top.proofs.StatedLemmas.{input_one, input_there}
 use Rattle.pl_top.proofs.VerdictLemmas.{verdict_from, verdict_only, verdict_holds}
 
 -- ---- one at most
@@ -84,19 +86,10 @@ module _ (first_one : FirstFaultIsOne) (task_one : TaskIsOne) (excludes_task : F
   judged_one : (domain problem plan : List ℕ) (outcome other : Outcome)
       → IsJudged domain problem plan outcome →
       IsJudged domain problem plan other → outcome ≡ other
-  judged_one domain problem plan outcome other (inl h) (inl k) =
-      h.comes ∙
-      ap (λ found. faulty (bytes_of domain problem found.file) found)
-      (first_one domain problem h.found k.found h.is_first k.is_first) ∙
-      sym k.comes
-  judged_one domain problem plan outcome other (inl h) (inr k) =
-      absurd (excludes_task domain problem h.found k.task h.is_first k.stated)
-  judged_one domain problem plan outcome other (inr h) (inl k) =
-      absurd (excludes_task domain problem k.found h.task k.is_first h.stated)
-  judged_one domain problem plan outcome other (inr h) (inr k) =
-      let same = task_one domain problem h.task k.task h.stated k.stated in
-      plan_judged k.task plan outcome other
-      (subst (λ t. IsFaultOfPlan plan outcome ⊎ IsVerdictOn t plan outcome) same h.judged) k.judged
+  judged_one domain problem plan outcome other =
+      input_one first_one task_one excludes_task domain problem outcome other
+      (IsPlanJudged domain problem plan) (λ o task. IsFaultOfPlan plan o ⊎ IsVerdictOn task plan o)
+      (λ o h. (h.task, h.stated, h.judged)) (λ task. plan_judged task plan outcome other)
 
   -- how a search of one task ends is one outcome
   search_one : (task : Task) (options : PlanOptions) (outcome other : Outcome)
@@ -112,36 +105,18 @@ module _ (first_one : FirstFaultIsOne) (task_one : TaskIsOne) (excludes_task : F
   -- the bytes of two files have one outcome
   planned_one : (domain problem : List ℕ) (options : PlanOptions) (outcome other : Outcome) →
       IsPlanned domain problem options outcome → IsPlanned domain problem options other → outcome ≡ other
-  planned_one domain problem options outcome other (inl h) (inl k) =
-      h.comes ∙
-      ap (λ found. faulty (bytes_of domain problem found.file) found)
-      (first_one domain problem h.found k.found h.is_first k.is_first) ∙
-      sym k.comes
-  planned_one domain problem options outcome other (inl h) (inr k) =
-      absurd (excludes_task domain problem h.found k.task h.is_first k.stated)
-  planned_one domain problem options outcome other (inr h) (inl k) =
-      absurd (excludes_task domain problem k.found h.task k.is_first h.stated)
-  planned_one domain problem options outcome other (inr h) (inr k) =
-      search_one k.task options outcome other
-      (subst (λ t. IsSearchOutcome t options outcome)
-      (task_one domain problem h.task k.task h.stated k.stated) h.planned) k.planned
+  planned_one domain problem options outcome other =
+      input_one first_one task_one excludes_task domain problem outcome other
+      (IsTaskPlanned domain problem options) (λ o task. IsSearchOutcome task options o)
+      (λ o h. (h.task, h.stated, h.planned)) (λ task. search_one task options outcome other)
 
   -- the texts of a made task have one outcome
   made_one : (domain problem : List ℕ) (outcome other : Outcome) → IsMadeOf domain problem outcome →
       IsMadeOf domain problem other → outcome ≡ other
-  made_one domain problem outcome other (inl h) (inl k) =
-      h.comes ∙
-      ap (λ found. faulty (bytes_of domain problem found.file) found)
-      (first_one domain problem h.found k.found h.is_first k.is_first) ∙
-      sym k.comes
-  made_one domain problem outcome other (inl h) (inr k) =
-      absurd (excludes_task domain problem h.found k.task h.is_first k.stated)
-  made_one domain problem outcome other (inr h) (inl k) =
-      absurd (excludes_task domain problem k.found h.task k.is_first h.stated)
-  made_one domain problem outcome other (inr h) (inr k) =
-      made_search_one k.task outcome other
-      (subst (λ t. IsMadeOutcome t outcome) (task_one domain problem h.task k.task h.stated k.stated) h.made)
-      k.made
+  made_one domain problem outcome other =
+      input_one first_one task_one excludes_task domain problem outcome other (IsTaskMade domain problem)
+      (λ o task. IsMadeOutcome task o) (λ o h. (h.task, h.stated, h.made))
+      (λ task. made_search_one task outcome other)
 
   pub outcome_one : OutcomeIsOne
   outcome_one (Validate domain problem plan) files place place' outcome other =
@@ -205,96 +180,76 @@ plan_read_there files place (Some name) F further =
 module _ (fault_or_task : FaultOrTask) (fault_or_lines : FaultOrLines) (excludes_lines : FaultExcludesLines)
     (lines_one : LinesAreOne) where
   -- a plan file gives an outcome for a task
-  plan_there : (domain problem plan : List ℕ) → HaveTask domain problem → length plan ≤ most_file_bytes →
-      (outcome : Outcome) × IsJudged domain problem plan outcome
-  plan_there domain problem plan has short = by_plan (fault_or_lines plan has.0 short)
+  plan_there : (domain problem plan : List ℕ) → length plan ≤ most_file_bytes → (task : Task) →
+      AreStated domain problem task → (outcome : Outcome) × IsPlanJudged domain problem plan outcome
+  plan_there domain problem plan short task stated = by_plan (fault_or_lines plan task short)
     where
-      by_plan : HasPlanFault plan ⊎ HasLines plan has.0 → (outcome : Outcome)
-          × IsJudged domain problem plan outcome
+      by_plan : HasPlanFault plan ⊎ HasLines plan task → (outcome : Outcome)
+          × IsPlanJudged domain problem plan outcome
       by_plan (inl faulted) = (
         faulty plan faulted.0,
-        inr (record {
-          task = has.0;
-          stated = has.1;
+        record {
+          task = task;
+          stated = stated;
           judged = inl (record { found = faulted.0; is_first = faulted.1; comes = refl });
-        }),
+        },
       )
       by_plan (inr lined) = (
-        verdict_outcome (verdict_from has.0 (initial has.0) 0 lined.0),
-        inr (record {
-          task = has.0;
-          stated = has.1;
+        verdict_outcome (verdict_from task (initial task) 0 lined.0),
+        record {
+          task = task;
+          stated = stated;
           judged = inr (record {
             lines = lined.0;
             are = lined.1;
-            verdict = verdict_from has.0 (initial has.0) 0 lined.0;
-            is_verdict = verdict_holds has.0 lined.0 lined.0 [] (initial has.0) 0 refl refl refl;
+            verdict = verdict_from task (initial task) 0 lined.0;
+            is_verdict = verdict_holds task lined.0 lined.0 [] (initial task) 0 refl refl refl;
             comes = refl;
           });
-        }),
+        },
       )
 
   -- three files that are read whole give an outcome
   judged_there : (domain problem plan : List ℕ) → length domain ≤ most_file_bytes →
       length problem ≤ most_file_bytes → length plan ≤ most_file_bytes →
       (outcome : Outcome) × IsJudged domain problem plan outcome
-  judged_there domain problem plan dle ple lle = by_files (fault_or_task domain problem dle ple)
-    where
-      by_files : HaveFirstFault domain problem ⊎ HaveTask domain problem →
-          (outcome : Outcome) × IsJudged domain problem plan outcome
-      by_files (inl faulted) = (
-        faulty (bytes_of domain problem faulted.0.file) faulted.0,
-        inl (record {
-          found = faulted.0;
-          is_first = faulted.1;
-          comes = refl;
-        }),
-      )
-      by_files (inr has) = plan_there domain problem plan has lle
+  judged_there domain problem plan dle ple lle =
+      input_there fault_or_task domain problem (IsPlanJudged domain problem plan) dle ple
+      (plan_there domain problem plan lle)
 
   -- two files that are read whole give an outcome
   planned_there : (domain problem : List ℕ) (options : PlanOptions) → length domain ≤ most_file_bytes →
       length problem ≤ most_file_bytes → 1 ≤ limit_of options →
       (outcome : Outcome) × IsPlanned domain problem options outcome
-  planned_there domain problem options dle ple some = by_files (fault_or_task domain problem dle ple)
+  planned_there domain problem options dle ple some =
+      input_there fault_or_task domain problem (IsTaskPlanned domain problem options) dle ple search_there
     where
-      by_files : HaveFirstFault domain problem ⊎ HaveTask domain problem → (outcome : Outcome)
-          × IsPlanned domain problem options outcome
-      by_files (inl faulted) = (
-        faulty (bytes_of domain problem faulted.0.file) faulted.0,
-        inl (record { found = faulted.0; is_first = faulted.1; comes = refl }),
-      )
-      by_files (inr has) =
-          (let (of, ending, stats, ends) = all_have_ending has.0 (search_of options) (is_hopeless has.0)
+      search_there : (task : Task) → AreStated domain problem task →
+          (outcome : Outcome) × IsTaskPlanned domain problem options outcome
+      search_there task stated =
+          let (of, ending, stats, ends) = all_have_ending task (search_of options) (is_hopeless task)
           (limit_of options) some in (
-            search_outcome has.0 options ending stats,
-            inr (record {
-              task = has.0;
-              stated = has.1;
+            search_outcome task options ending stats,
+            record {
+              task = task;
+              stated = stated;
               planned = record {
                 ending = ending;
                 stats = stats;
                 searched = record { of = of; ends = ends };
                 comes = refl;
               };
-            }),
-          ))
+            },
+          )
 
   -- the texts of a made task give an outcome
   made_there : (domain problem : List ℕ) → length domain ≤ most_file_bytes
       → length problem ≤ most_file_bytes →
       (outcome : Outcome) × IsMadeOf domain problem outcome
-  made_there domain problem dle ple = by_files (fault_or_task domain problem dle ple)
-    where
-      by_files : HaveFirstFault domain problem ⊎ HaveTask domain problem → (outcome : Outcome)
-          × IsMadeOf domain problem outcome
-      by_files (inl faulted) = (
-        faulty (bytes_of domain problem faulted.0.file) faulted.0,
-        inl (record { found = faulted.0; is_first = faulted.1; comes = refl }),
-      )
-      by_files (inr has) =
-          (let found = made_search_there has.0 in
-          (found.0, inr (record { task = has.0; stated = has.1; made = found.1 })))
+  made_there domain problem dle ple =
+      input_there fault_or_task domain problem (IsTaskMade domain problem) dle ple
+      (λ task stated. (let found = made_search_there task in
+      (found.0, record { task = task; stated = stated; made = found.1 })))
 
   pub outcome_there : OutcomeIsThere
   outcome_there (Validate domain problem plan) files place runs =

@@ -1,11 +1,15 @@
--- From a search over a registry to how a search ends that cuts hopeless states.
-use Rattle.std.proofs.Common.{◌≡◌, ℕ, Bool, List, inl, inr, sym, subst, Result, Ok, Err, IfOk}
+-- From a search over a registry to how a search ends that cuts hopeless states, and to what it took.
+use Rattle.std.proofs.Common.{◌≡◌, ◌↔◌, ℕ, ◌≤◌, ◌+◌, Bool, IsTrue, List, inl, inr, sym, subst, Result, Ok}
+use Rattle.std.proofs.Common.{Err, IfOk}
 use Rattle.std.specs.Borrow.{Bor}
+use Rattle.std.specs.Fn.{FnReturns}
 use Rattle.std.proofs.lemmas.List.Elements.{All-weaker}
 use denote.Param.Members.{Shared}
 use Rattle.pl_task.specs.declared.task.Task.{Task}
-use Rattle.pl_task.specs.Goal.{unmet}
+use Rattle.pl_task.specs.Goal.{IsHopeless, unmet}
 use Rattle.pl_task.specs.States.{State}
+use Rattle.pl_state.specs.StateOf.{IsStateOf, state_in}
+use Rattle.pl_gen.specs.Walks.{AreAcyclic}
 use Rattle.pl_registry.specs.declared.ended.Ended.{Ended}
 use Rattle.pl_hooks.specs.Hopeless.{is_hopeless}
 use Rattle.pl_registry.specs.declared.ended.Stats.{Stats}
@@ -20,11 +24,12 @@ use Rattle.pl_registry.specs.SearchRecord.{SearchRecord, IsRecordUpTo, pair_at}
 use Rattle.pl_registry.specs.StateSpace.{StateSpace, space_of}
 use Rattle.pl_hooks.specs.Sound.{IsHopelessCut, IsUnmetCount}
 use Rattle.pl_hooks.proofs.Cuts.{drops_hopeless, keeps_hopeful}
-use Rattle.pl_bfs.specs.Breadth.{IsBreadth, MayDrop, MayKeep}
+use Rattle.pl_bfs.specs.Breadth.{IsBreadth, MayDrop, MayKeep, search_bound}
 use Rattle.pl_bfs.specs.Width.{IsWidth, ending_of_width}
 use Rattle.pl_bfs.specs.declared.width_ended.WidthEnded.{WidthEnded}
 use Rattle.pl_greedy.specs.Greedy.{IsGreedy}
-use Rattle.pl_top.specs.Searching.{IsOfWidth, IsSearchedBy}
+use Rattle.pl_top.specs.Ended.{IsSearchedWithin}
+use Rattle.pl_top.specs.Searching.{IsOfWidth}
 
 -- what may be dropped and what kept leads to what else may be
 module _ (space : StateSpace) (D K D' K' : State → Type 0) (drops : (s : State) → D s → D' s)
@@ -74,71 +79,90 @@ module _ (space : StateSpace) (D K D' K' : State → Type 0) (drops : (s : State
   ending_weaker Exhausted h = h
   ending_weaker Limit (uncut, full) = (uncut_weaker uncut, full_weaker full)
 
+-- a closure that asks the test of hopeless states says which are hopeless
+pub tells_hopeless : {F : Type 0} (calls : Shared F (Bor (List ℕ) × Unit {0}) Bool) (task : Task) (cut : F)
+    → ((s : Bor (List ℕ)) → IsStateOf task s.now → calls.pre cut (s, tt))
+    → ((s : Bor (List ℕ)) (b : Bool) → IsStateOf task s.now → FnReturns calls cut (s, tt) b
+    → IsTrue b ↔ IsHopeless task (state_in task s.now))
+    → IsHopelessCut calls task cut
+tells_hopeless calls task cut callable answers = record {
+  callable = callable;
+  answers = λ s b is says. subst (λ t. IsTrue b ↔ IsHopeless task (state_in task t)) says.shows
+      (answers says.shown b (subst (IsStateOf task) (sym says.shows) is) says.says);
+}
+
 -- a search whose closure says which states are hopeless ends as one that cuts these
-pub breadth_ends : {F : Type 0} (calls : Shared F (Bor (List ℕ) × Unit {0}) Bool) (task over : Task) (cut : F)
-    (limit : ℕ)
-    (old new : Register) (ended : Ended) → over ≡ task → old.limit ≡ limit
-    → IsHopelessCut calls task cut
-    → (h : IsBreadth calls over cut old new ended)
-    → IsEnding (space_of task) (IsCut (is_hopeless task)) (IsKept (is_hopeless task)) by_number limit h.of
-    (ending_of ended.outcome) ended.stats
-breadth_ends calls task over cut limit old new ended same fits says h =
-    let told : IsHopelessCut calls over cut = subst (λ t. IsHopelessCut calls t cut) (sym same) says in
-    subst (λ t. IsEnding (space_of t) (IsCut (is_hopeless t)) (IsKept (is_hopeless t)) by_number limit h.of
-    (ending_of ended.outcome) ended.stats) same
-    (subst (λ l. IsEnding (space_of over) (IsCut (is_hopeless over))
-    (IsKept (is_hopeless over)) by_number l h.of (ending_of ended.outcome) ended.stats) fits
-    (ending_weaker (space_of over) (MayDrop calls over cut) (MayKeep calls over cut)
+cut_ends : {F : Type 0} (calls : Shared F (Bor (List ℕ) × Unit {0}) Bool) (task over : Task) (given cut : F)
+    (rank : Task → State → ℕ) (most limit : ℕ) (r : SearchRecord) (ending : Ending) (stats : Stats)
+    → over ≡ task → most ≡ limit → given ≡ cut → IsHopelessCut calls task cut
+    → IsEnding (space_of over) (MayDrop calls over given) (MayKeep calls over given) (rank over) most r ending
+    stats
+    → IsEnding (space_of task) (IsCut (is_hopeless task)) (IsKept (is_hopeless task)) (rank task) limit r
+    ending stats
+cut_ends calls task over given cut rank most limit r ending stats same fits is says h =
+    let told : IsHopelessCut calls over given =
+    subst (λ (t : Task). IsHopelessCut calls t given) (sym same)
+    (subst (IsHopelessCut calls task) (sym is) says) in
+    subst (λ (t : Task). IsEnding (space_of t) (IsCut (is_hopeless t)) (IsKept (is_hopeless t)) (rank t) limit
+    r ending stats) same
+    (subst (λ l. IsEnding (space_of over) (IsCut (is_hopeless over)) (IsKept (is_hopeless over)) (rank over) l
+    r ending stats) fits
+    (ending_weaker (space_of over) (MayDrop calls over given) (MayKeep calls over given)
     (IsCut (is_hopeless over)) (IsKept (is_hopeless over))
-    (drops_hopeless calls over cut told) (keeps_hopeful calls over cut told) by_number old.limit h.of
-    ended.stats
-    (ending_of ended.outcome) h.ending))
+    (drops_hopeless calls over given told) (keeps_hopeful calls over given told) (rank over) most r stats
+    ending h))
 
-pub breadth_searched : {F E : Type 0} (calls : Shared F (Bor (List ℕ) × Unit {0}) Bool) (task over : Task)
-    (given cut : F)
-    (limit : ℕ) (old new : Register) → over ≡ task → old.limit ≡ limit
+-- how a search ended and what it took, where its answer has a record
+searched_within : {T E : Type 0} (task over : Task) (by : Search) (limit before after : ℕ)
+    (ending : T → Ending) (stats : T → Stats) (Is : T → Type 0) (of : (ended : T) → Is ended → SearchRecord)
+    → ((ended : T) (h : Is ended) →
+    IsEndingOf task (is_hopeless task) by limit (of ended h) (ending ended) (stats ended))
+    → over ≡ task → (result : Result T E) → IfOk result Is
+    → IfOk result (λ ended. AreAcyclic over → (h : Is ended) → after ≤ before + search_bound over (of ended h))
+    → IfOk result (λ ended. IsSearchedWithin task by limit (ending ended) (stats ended) before after)
+searched_within task over by limit before after ending stats Is of ends same (Ok ended) h cost =
+    let r = of ended h in (
+      record { of = r; ends = ends ended h },
+      record {
+        ending = ending ended;
+        stats = stats ended;
+        of = r;
+        ends = ends ended h;
+        cost = subst (λ (t : Task). AreAcyclic t → after ≤ before + search_bound t r) same
+            (λ acyclic. cost acyclic h);
+      },
+    )
+searched_within task over by limit before after ending stats Is of ends same (Err e) h cost = tt
+
+-- breadth-first search whose closure says which states are hopeless is the search that cuts these
+pub breadth_within : {F E : Type 0} (calls : Shared F (Bor (List ℕ) × Unit {0}) Bool) (task over : Task)
+    (given cut : F) (limit : ℕ) (old new : Register) (before after : ℕ) → over ≡ task → old.limit ≡ limit
     → (result : Result Ended E) → IfOk result (IsBreadth calls over given old new)
+    → IfOk result (λ ended. AreAcyclic over → (h : IsBreadth calls over given old new ended)
+    → after ≤ before + search_bound over h.of)
     → given ≡ cut → IsHopelessCut calls task cut
-    → IfOk result (λ ended. IsSearchedBy task search.Bfs limit (ending_of ended.outcome) ended.stats)
-breadth_searched calls task over given cut limit old new same fits (Ok ended) h is says = record {
-  of = h.of;
-  ends = breadth_ends calls task over given limit old new ended same fits
-      (subst (IsHopelessCut calls task) (sym is) says) h;
-}
-breadth_searched calls task over given cut limit old new same fits (Err e) h is says = tt
+    → IfOk result (λ ended.
+    IsSearchedWithin task search.Bfs limit (ending_of ended.outcome) ended.stats before after)
+breadth_within calls task over given cut limit old new before after same fits result h cost is says =
+    searched_within task over search.Bfs limit before after (λ (e : Ended). ending_of e.outcome)
+    (λ (e : Ended). e.stats) (IsBreadth calls over given old new) (λ e b. b.of)
+    (λ e b. cut_ends calls task over given cut (λ _. by_number) old.limit limit b.of (ending_of e.outcome)
+    e.stats same fits is says b.ending) same result h cost
 
--- and so does greedy best-first search
-pub greedy_ends : {F : Type 0} (calls : Shared F (Bor (List ℕ) × Unit {0}) Bool) (task over : Task) (cut : F)
-    (limit : ℕ)
-    (old new : Register) (ended : Ended) → over ≡ task → old.limit ≡ limit
-    → IsHopelessCut calls task cut
-    → (h : IsGreedy calls over cut old new ended)
-    → IsEnding (space_of task) (IsCut (is_hopeless task)) (IsKept (is_hopeless task)) (unmet task) limit h.of
-    (ending_of ended.outcome) ended.stats
-greedy_ends calls task over cut limit old new ended same fits says h =
-    let told : IsHopelessCut calls over cut = subst (λ t. IsHopelessCut calls t cut) (sym same) says in
-    subst (λ t. IsEnding (space_of t) (IsCut (is_hopeless t)) (IsKept (is_hopeless t)) (unmet t) limit h.of
-    (ending_of ended.outcome) ended.stats) same
-    (subst (λ l. IsEnding (space_of over) (IsCut (is_hopeless over)) (IsKept (is_hopeless over))
-    (unmet over) l h.of (ending_of ended.outcome) ended.stats) fits
-    (ending_weaker (space_of over) (MayDrop calls over cut) (MayKeep calls over cut)
-    (IsCut (is_hopeless over)) (IsKept (is_hopeless over))
-    (drops_hopeless calls over cut told) (keeps_hopeful calls over cut told)
-    (unmet over) old.limit h.of ended.stats
-    (ending_of ended.outcome) h.ending))
-
-pub greedy_searched : {F E : Type 0} (calls : Shared F (Bor (List ℕ) × Unit {0}) Bool) (task over : Task)
-    (given cut : F)
-    (limit : ℕ) (old new : Register) → over ≡ task → old.limit ≡ limit
+-- and so is greedy best-first search
+pub greedy_within : {F E : Type 0} (calls : Shared F (Bor (List ℕ) × Unit {0}) Bool) (task over : Task)
+    (given cut : F) (limit : ℕ) (old new : Register) (before after : ℕ) → over ≡ task → old.limit ≡ limit
     → (result : Result Ended E) → IfOk result (IsGreedy calls over given old new)
+    → IfOk result (λ ended. AreAcyclic over → (h : IsGreedy calls over given old new ended)
+    → after ≤ before + search_bound over h.of)
     → given ≡ cut → IsHopelessCut calls task cut
-    → IfOk result (λ ended. IsSearchedBy task search.Gbfs limit (ending_of ended.outcome) ended.stats)
-greedy_searched calls task over given cut limit old new same fits (Ok ended) h is says = record {
-  of = h.of;
-  ends = greedy_ends calls task over given limit old new ended same fits
-      (subst (IsHopelessCut calls task) (sym is) says) h;
-}
-greedy_searched calls task over given cut limit old new same fits (Err e) h is says = tt
+    → IfOk result (λ ended.
+    IsSearchedWithin task search.Gbfs limit (ending_of ended.outcome) ended.stats before after)
+greedy_within calls task over given cut limit old new before after same fits result h cost is says =
+    searched_within task over search.Gbfs limit before after (λ (e : Ended). ending_of e.outcome)
+    (λ (e : Ended). e.stats) (IsGreedy calls over given old new) (λ e b. b.of)
+    (λ e b. cut_ends calls task over given cut unmet old.limit limit b.of (ending_of e.outcome) e.stats same
+    fits is says b.ending) same result h cost
 
 -- what a closure counts for a task it counts for the same one
 pub counts_so : {F : Type 0} (calls : Shared F (Bor (List ℕ) × Unit {0}) ℕ) (task same : Task) (rank : F)
@@ -156,32 +180,17 @@ module _ (task : Task) (limit : ℕ) (r : SearchRecord) (ending : Ending) (stats
   width_by search.Iw1 k of h = subst (λ n. IsWidthEnding (space_of task) task n limit r ending stats) of h
   width_by search.Iw2 k of h = subst (λ n. IsWidthEnding (space_of task) task n limit r ending stats) of h
 
-pub width_ends : (task over : Task) (by : Search) (k limit : ℕ) (old new : Register) (ended : WidthEnded)
-    → over ≡ task →
-    old.limit ≡ limit → IsOfWidth by k → (h : IsWidth over k old new ended) →
-    IsEndingOf task (is_hopeless task) by limit h.of (ending_of_width ended.outcome) ended.stats
-width_ends task over by k limit old new ended same fits of h =
-    width_by task limit h.of (ending_of_width ended.outcome) ended.stats by k of
-    (subst (λ (t : Task). IsWidthEnding (space_of t) t k limit h.of
-    (ending_of_width ended.outcome) ended.stats) same
-    (subst (λ l. IsWidthEnding (space_of over) over k l h.of (ending_of_width ended.outcome) ended.stats) fits
-    h.is))
-
-pub width_searched : (task over : Task) (by : Search) (k limit : ℕ) (old new : Register) (ended : WidthEnded)
-    → over ≡ task →
-    old.limit ≡ limit → IsOfWidth by k → IsWidth over k old new ended →
-    IsSearchedBy task by limit (ending_of_width ended.outcome) ended.stats
-width_searched task over by k limit old new ended same fits of h =
-    record { of = h.of; ends = width_ends task over by k limit old new ended same fits of h }
-
--- the same search with the same end
-pub searched_so : (task : Task) (by same : Search) (limit : ℕ) (ending alike : Ending) (stats equal : Stats)
-    → by ≡ same →
-    alike ≡ ending → equal ≡ stats → IsSearchedBy task by limit ending stats
-    → IsSearchedBy task same limit alike equal
-searched_so task by same limit ending alike stats equal p q r h = record {
-  of = h.of;
-  ends = subst (λ (s : Search). IsEndingOf task (is_hopeless task) s limit h.of alike equal) p
-      (subst (λ (s : Stats). IsEndingOf task (is_hopeless task) by limit h.of alike s) (sym r)
-      (subst (λ (e : Ending). IsEndingOf task (is_hopeless task) by limit h.of e stats) (sym q) h.ends));
-}
+pub width_within : {E : Type 0} (task over : Task) (by : Search) (k limit : ℕ) (old new : Register)
+    (before after : ℕ) → over ≡ task → old.limit ≡ limit → IsOfWidth by k
+    → (result : Result WidthEnded E) → IfOk result (IsWidth over k old new)
+    → IfOk result (λ ended. AreAcyclic over → (h : IsWidth over k old new ended)
+    → after ≤ before + search_bound over h.of)
+    → IfOk result (λ ended.
+    IsSearchedWithin task by limit (ending_of_width ended.outcome) ended.stats before after)
+width_within task over by k limit old new before after same fits is =
+    searched_within task over by limit before after (λ (e : WidthEnded). ending_of_width e.outcome)
+    (λ (e : WidthEnded). e.stats) (IsWidth over k old new) (λ e h. h.of)
+    (λ e h. width_by task limit h.of (ending_of_width e.outcome) e.stats by k is
+    (subst (λ (t : Task). IsWidthEnding (space_of t) t k limit h.of (ending_of_width e.outcome) e.stats) same
+    (subst (λ l. IsWidthEnding (space_of over) over k l h.of (ending_of_width e.outcome) e.stats) fits h.is)))
+    same

@@ -1,8 +1,7 @@
 -- How many probes the parts of a run take.
-use Rattle.std.proofs.Common.{◌≡◌, ◌∙◌, ℕ, ◌≤◌, ◌+◌, ◌*◌, Bool, List, length, Option, Result, Ok, Err}
-use Rattle.std.proofs.Common.{IfOk, Bor, inl, inr, ap, sym, subst, arith}
+use Rattle.std.proofs.Common.{◌≡◌, ◌∙◌, ℕ, ◌≤◌, ◌+◌, ◌*◌, List, length, Option}
+use Rattle.std.proofs.Common.{inl, inr, ap, subst, arith}
 use Rattle.std.specs.Option.{option_map}
-use denote.Param.Members.{Shared}
 use Rattle.pl_io.specs.Outside.{ShelfSeen}
 use Rattle.pl_io.specs.Outside.{SinkSeen}
 use Rattle.pl_check.specs.Stated.{AreStated}
@@ -16,16 +15,8 @@ use Rattle.pl_normal.specs.Measures.{base_bound, largest_size, probe_bound}
 use Rattle.pl_state.specs.StateOf.{state_in}
 use Rattle.pl_gen.specs.Walks.{AreAcyclic, AreLocal, PreparedState, WalkView}
 use Rattle.pl_gen.specs.Walks.{resume_reads, state_of_prepared, step_reads, walk_reads}
-use Rattle.pl_registry.specs.declared.ended.Ended.{Ended}
 use Rattle.pl_registry.specs.declared.search.Search.{Search}
 use Rattle.pl_registry.specs.declared.search.Search.TheVariants as search
-use Rattle.pl_registry.specs.Ending.{ending_of}
-use Rattle.pl_registry.specs.Registered.{Register}
-use Rattle.pl_hooks.specs.Sound.{IsHopelessCut}
-use Rattle.pl_bfs.specs.Breadth.{IsBreadth, search_bound}
-use Rattle.pl_bfs.specs.Width.{IsWidth, ending_of_width}
-use Rattle.pl_bfs.specs.declared.width_ended.WidthEnded.{WidthEnded}
-use Rattle.pl_greedy.specs.Greedy.{IsGreedy}
 use Rattle.pl_top.specs.declared.plan_options.PlanOptions.{PlanOptions as AskedOptions}
 use Rattle.pl_top.specs.declared.refusal.Refusal.{Refusal}
 use Rattle.pl_top.specs.declared.refusal.Refusal.TheVariants.{CannotRead, TooLong, Input, NotAStep, Memory}
@@ -37,7 +28,7 @@ use Rattle.pl_top.specs.Planning.{IsOfTask}
 use Rattle.pl_top.specs.Reaching.{AreExecuted, IsRefusedBy}
 use Rattle.pl_top.specs.Refusal.{status_of, IsPlanWhole}
 use Rattle.pl_top.specs.Request.{Options, PlanOptions}
-use Rattle.pl_top.specs.Searching.{IsOfWidth, limit_of, limit_or_default, search_of, search_or_bfs}
+use Rattle.pl_top.specs.Searching.{limit_of, limit_or_default, search_of, search_or_bfs}
 use Rattle.pl_top.specs.Starting.{IsPageOf, IsStartRead, IsStartStated}
 use Rattle.pl_top.specs.Work.{IsTaskRead, IsSearchEnded, IsSearchWithin, IsPlanWithin, IsMadeWithin}
 use Rattle.pl_top.specs.Work.{IsWalkWithin, IsListWithin}
@@ -45,7 +36,6 @@ use Rattle.pl_top.specs.Writing.{Writes}
 use Rattle.pl_make.specs.declared.kind.Kind.{Kind}
 use Rattle.pl_make.specs.Texts.{domain_text, problem_text}
 use Rattle.pl_top.proofs.MadeRunLemmas.{says_nothing}
-use Rattle.pl_top.proofs.SearchLemmas.{breadth_ends, greedy_ends, width_ends}
 
 -- a refusal says nothing of the task
 pub refused_nothing : (why : Refusal) (result : ℕ) → result ≡ status_of why → IsOfTask result → ⊥
@@ -100,66 +90,6 @@ task_read domain problem shelf shelf' d p task first second stated = record {
   problem_read = second;
   stated = stated;
 }
-
--- a breadth-first search whose closure says which states are hopeless is the search that cuts these
-pub breadth_within : {F E : Type 0} (calls : Shared F (Bor (List ℕ) × Unit {0}) Bool) (task over : Task)
-    (given cut : F) (limit : ℕ)
-    (old new : Register) (before after : ℕ) → over ≡ task → old.limit ≡ limit
-    → (result : Result Ended E) → IfOk result (IsBreadth calls over given old new)
-    → IfOk result (λ ended. AreAcyclic over → (h : IsBreadth calls over given old new ended)
-    → after ≤ before + search_bound over h.of)
-    → given ≡ cut → IsHopelessCut calls task cut
-    → IfOk result (λ ended. IsSearchWithin task search.Bfs limit before after)
-breadth_within calls task over given cut limit old new before after same fits (Ok ended) h cost is says =
-    record {
-      ending = ending_of ended.outcome;
-      stats = ended.stats;
-      of = h.of;
-      ends = breadth_ends calls task over given limit old new ended same fits
-          (subst (IsHopelessCut calls task) (sym is) says) h;
-      cost = subst (λ (t : Task). AreAcyclic t → after ≤ before + search_bound t h.of) same
-          (λ acyclic. cost acyclic h);
-    }
-breadth_within calls task over given cut limit old new before after same fits (Err e) h cost is says = tt
-
--- and so is a greedy search
-pub greedy_within : {F E : Type 0} (calls : Shared F (Bor (List ℕ) × Unit {0}) Bool) (task over : Task)
-    (given cut : F) (limit : ℕ)
-    (old new : Register) (before after : ℕ) → over ≡ task → old.limit ≡ limit
-    → (result : Result Ended E) → IfOk result (IsGreedy calls over given old new)
-    → IfOk result (λ ended. AreAcyclic over → (h : IsGreedy calls over given old new ended)
-    → after ≤ before + search_bound over h.of)
-    → given ≡ cut → IsHopelessCut calls task cut
-    → IfOk result (λ ended. IsSearchWithin task search.Gbfs limit before after)
-greedy_within calls task over given cut limit old new before after same fits (Ok ended) h cost is says =
-    record {
-      ending = ending_of ended.outcome;
-      stats = ended.stats;
-      of = h.of;
-      ends = greedy_ends calls task over given limit old new ended same fits
-          (subst (IsHopelessCut calls task) (sym is) says) h;
-      cost = subst (λ (t : Task). AreAcyclic t → after ≤ before + search_bound t h.of) same
-          (λ acyclic. cost acyclic h);
-    }
-greedy_within calls task over given cut limit old new before after same fits (Err e) h cost is says = tt
-
--- what a width search took
-pub width_within : {E : Type 0} (task over : Task) (by : Search) (k limit : ℕ) (old new : Register)
-    (before after : ℕ)
-    → over ≡ task → old.limit ≡ limit → IsOfWidth by k
-    → (result : Result WidthEnded E) → IfOk result (IsWidth over k old new)
-    → IfOk result (λ ended. AreAcyclic over → (h : IsWidth over k old new ended)
-    → after ≤ before + search_bound over h.of)
-    → IfOk result (λ ended. IsSearchWithin task by limit before after)
-width_within task over by k limit old new before after same fits of (Ok ended) h cost = record {
-  ending = ending_of_width ended.outcome;
-  stats = ended.stats;
-  of = h.of;
-  ends = width_ends task over by k limit old new ended same fits of h;
-  cost = subst (λ (t : Task). AreAcyclic t → after ≤ before + search_bound t h.of) same
-      (λ acyclic. cost acyclic h);
-}
-width_within task over by k limit old new before after same fits of (Err e) h cost = tt
 
 -- the search that the options name, with its limit
 pub search_asked : (task : Task) (options : AskedOptions) (by : Search) (limit before after : ℕ) →

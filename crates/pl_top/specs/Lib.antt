@@ -15,6 +15,7 @@ pub mod Laws
 pub mod Asked
 pub mod Ended
 pub mod Refusal
+pub mod Reading
 pub mod Writing
 pub mod Starting
 pub mod Reaching

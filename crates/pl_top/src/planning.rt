@@ -15,11 +15,11 @@ ghost use Rattle.pl_top.specs.Writing.{Finishes};
 
 use crate::ending::print_ended;
 use crate::plan_options::{Kind, PlanOptions};
-use crate::reading::read_file;
+use crate::reading::read_task_files;
 use crate::refusal::{Refusal, refuse};
 use crate::searching::searched;
 use crate::validating::of_input;
-use pl_check::{CheckEnd, FileRole, check};
+use pl_check::{CheckEnd, check};
 use pl_io::{Shelf, Sink};
 use pl_steps::Steps;
 use pl_task::Task;
@@ -69,9 +69,8 @@ fn read_task<S: Shelf>(
     ensures refused { let request = spec.FindPlan domain.now problem.now (plan_options_named _options) in
         IfErr result (IsRefused request (S.seen shelf.old) (S.seen shelf.new)) }
 {
-    let domain = read_file(alloc, shelf, FileRole::Domain, domain)?;
-    let problem = read_file(alloc, shelf, FileRole::Problem, problem)?;
-    stated(alloc, &domain, &problem)
+    let read = read_task_files(alloc, shelf, domain, problem)?;
+    stated(alloc, &read.domain, &read.problem)
 }
 
 /// The task that the bytes of a domain and a problem state, or their first fault.

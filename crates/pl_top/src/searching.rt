@@ -6,9 +6,8 @@ ghost use Rattle.pl_registry.specs.Ending.{ending_of};
 ghost use Rattle.pl_registry.specs.declared.search.Search.{Search};
 ghost use Rattle.pl_registry.specs.declared.search.Search.TheVariants as search;
 ghost use Rattle.pl_top.specs.Asked.{kind_named};
-ghost use Rattle.pl_top.specs.Ended.{ending_in};
-ghost use Rattle.pl_top.specs.Searching.{IsOfWidth, IsSearchedBy};
-ghost use Rattle.pl_top.specs.Work.{IsSearchWithin};
+ghost use Rattle.pl_top.specs.Ended.{ending_in, IsSearchedWithin};
+ghost use Rattle.pl_top.specs.Searching.{IsOfWidth};
 
 use crate::plan_options::Kind;
 use crate::search_end::SearchEnd;
@@ -33,9 +32,8 @@ pub fn searched<L: Ledger>(
 ) -> Result<SearchEnd, AllocError>
     requires some { 1 ≤ limit }
     requires fits { limit < 2 ^ 32 - 1 }
-    ensures ended { IfOk result (λ end.
-        IsSearchedBy task.now (kind_named kind) limit (ending_in end.outcome) end.stats) }
-    ensures work { IfOk result (λ _. IsSearchWithin task.now (kind_named kind) limit steps.old steps.new) }
+    ensures ended { IfOk result (λ end. IsSearchedWithin task.now (kind_named kind) limit
+        (ending_in end.outcome) end.stats steps.old steps.new) }
     ensures rise { steps.old ≤ steps.new }
 {
     match kind {
@@ -56,9 +54,8 @@ pub fn breadth_first<L: Ledger>(
 ) -> Result<Ended, AllocError>
     requires some { 1 ≤ limit }
     requires fits { limit < 2 ^ 32 - 1 }
-    ensures ended { IfOk result (λ ended.
-        IsSearchedBy task.now search.Bfs limit (ending_of ended.outcome) ended.stats) }
-    ensures work { IfOk result (λ _. IsSearchWithin task.now search.Bfs limit steps.old steps.new) }
+    ensures ended { IfOk result (λ ended. IsSearchedWithin task.now search.Bfs limit
+        (ending_of ended.outcome) ended.stats steps.old steps.new) }
     ensures rise { steps.old ≤ steps.new }
 {
     let normal = normal(alloc, task)?;
@@ -79,9 +76,8 @@ fn best_first<L: Ledger>(
 ) -> Result<Ended, AllocError>
     requires some { 1 ≤ limit }
     requires fits { limit < 2 ^ 32 - 1 }
-    ensures ended { IfOk result (λ ended.
-        IsSearchedBy task.now search.Gbfs limit (ending_of ended.outcome) ended.stats) }
-    ensures work { IfOk result (λ _. IsSearchWithin task.now search.Gbfs limit steps.old steps.new) }
+    ensures ended { IfOk result (λ ended. IsSearchedWithin task.now search.Gbfs limit
+        (ending_of ended.outcome) ended.stats steps.old steps.new) }
     ensures rise { steps.old ≤ steps.new }
 {
     let normal = normal(alloc, task)?;
@@ -107,10 +103,8 @@ fn by_width<L: Ledger>(
     requires most { k ≤ 2 }
     requires some { 1 ≤ limit }
     requires fits { limit < 2 ^ 32 - 1 }
-    ensures ended { (by : Search) → IsOfWidth by k → IfOk result (λ ended.
-        IsSearchedBy task.now by limit (ending_of_width ended.outcome) ended.stats) }
-    ensures work { (by : Search) → IsOfWidth by k → IfOk result (λ _.
-        IsSearchWithin task.now by limit steps.old steps.new) }
+    ensures ended { (by : Search) → IsOfWidth by k → IfOk result (λ ended. IsSearchedWithin task.now by limit
+        (ending_of_width ended.outcome) ended.stats steps.old steps.new) }
     ensures rise { steps.old ≤ steps.new }
 {
     let normal = normal(alloc, task)?;

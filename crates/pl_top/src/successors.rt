@@ -18,7 +18,7 @@ ghost use Rattle.pl_top.specs.Writing.{Finishes};
 
 use crate::listing::{ListEnd, put_list};
 use crate::reaching::{Destination, reached};
-use crate::reading::read_file;
+use crate::reading::{read_file, read_task_files};
 use crate::refusal::{Refusal, cannot_write, refuse};
 use crate::request::Options;
 use crate::starting::{Start, start_of};
@@ -74,10 +74,16 @@ fn started<S: Shelf>(
     ensures refused { let request = spec.Successors domain.now problem.now (options_named options.entry) in
         IfErr result (IsRefused request (S.seen shelf.old) (S.seen shelf.new)) }
 {
-    let domain = read_file(alloc, shelf, FileRole::Domain, domain)?;
-    let problem = read_file(alloc, shelf, FileRole::Problem, problem)?;
+    let read = read_task_files(alloc, shelf, domain, problem)?;
     let plan = read_plan_file(alloc, shelf, options.after)?;
-    start_from(alloc, &domain, &problem, &plan, options.past, options.count)
+    start_from(
+        alloc,
+        &read.domain,
+        &read.problem,
+        &plan,
+        options.past,
+        options.count,
+    )
 }
 
 /// The bytes of the plan file, where one is named.

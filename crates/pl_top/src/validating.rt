@@ -9,7 +9,7 @@ ghost use Rattle.pl_print.specs.Texts.{verdict_text};
 ghost use Rattle.pl_top.specs.Run.{RunEnds};
 ghost use Rattle.pl_top.specs.Writing.{Writes};
 
-use crate::reading::read_file;
+use crate::reading::{read_file, read_task_files};
 use crate::refusal::{Refusal, cannot_write, refuse};
 use pl_check::{CheckEnd, FileRole, InputFault, check, read_plan};
 use pl_io::{Shelf, Sink};
@@ -73,10 +73,9 @@ fn verdict_on<S: Shelf>(
     ensures refused { let request = spec.Validate domain.now problem.now plan.now in
         IfErr result (IsRefused request (S.seen shelf.old) (S.seen shelf.new)) }
 {
-    let domain = read_file(alloc, shelf, FileRole::Domain, domain)?;
-    let problem = read_file(alloc, shelf, FileRole::Problem, problem)?;
+    let read = read_task_files(alloc, shelf, domain, problem)?;
     let plan = read_file(alloc, shelf, FileRole::Plan, plan)?;
-    judged(alloc, &domain, &problem, &plan)
+    judged(alloc, &read.domain, &read.problem, &plan)
 }
 
 /// The verdict on the plan, or the first fault of the files.
