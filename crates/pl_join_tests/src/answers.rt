@@ -2,7 +2,7 @@
 
 ghost use Rattle.std.specs.Prelude.{◌≡◌, ◌+◌, ◌*◌, ◌<◌, ◌≤◌, ◌^◌, [], length, sum, sum_by};
 
-use crate::given::{NONE, ONE, Rows, relation_of};
+use crate::given::{NONE, OBJECTS, ONE, PATH, Rows, relation_of};
 use pl_cursor::Cursor;
 use pl_hyper::ears;
 use pl_join::{Relation, Slot};
@@ -53,24 +53,10 @@ struct Case {
     answers: &'static [&'static [u32]],
 }
 
-/// The objects a, b and c.
-const OBJECTS: Rows<'static> = Rows {
-    arity: 1,
-    rows: 3,
-    flat: &[0, 1, 2],
-};
-
-/// Edges between them: a b, c b, b a and b c.
-const EDGES: Rows<'static> = Rows {
-    arity: 2,
-    rows: 4,
-    flat: &[0, 1, 2, 1, 1, 0, 1, 2],
-};
-
 /// Two steps along the edges, from x over y to z, where x is class 0, y is class 1 and z is class 2.
 const WALK: Case = Case {
     edges: &[1, 2, 4, 3, 6],
-    tables: &[OBJECTS, OBJECTS, OBJECTS, EDGES, EDGES],
+    tables: &[OBJECTS, OBJECTS, OBJECTS, PATH, PATH],
     classes: &[1, 2, 0],
     answers: &[
         &[0, 1, 1],
@@ -87,25 +73,14 @@ const CASES: &[Case] = &[
     // one node
     Case {
         edges: &[3],
-        tables: &[EDGES],
+        tables: &[PATH],
         classes: &[0, 1],
         answers: &[&[0, 1], &[1, 0], &[1, 2], &[2, 1]],
     },
     // two components
     Case {
         edges: &[1, 6],
-        tables: &[
-            Rows {
-                arity: 1,
-                rows: 2,
-                flat: &[4, 0],
-            },
-            Rows {
-                arity: 2,
-                rows: 2,
-                flat: &[5, 6, 0, 9],
-            },
-        ],
+        tables: &[Rows(1, 2, &[4, 0]), Rows(2, 2, &[5, 6, 0, 9])],
         classes: &[1, 2, 0],
         answers: &[&[0, 9, 0], &[0, 9, 4], &[5, 6, 0], &[5, 6, 4]],
     },
@@ -125,14 +100,7 @@ const CASES: &[Case] = &[
     // two steps to a place that has no edge
     Case {
         edges: &[3, 6],
-        tables: &[
-            EDGES,
-            Rows {
-                arity: 2,
-                rows: 1,
-                flat: &[7, 7],
-            },
-        ],
+        tables: &[PATH, Rows(2, 1, &[7, 7])],
         classes: &[1, 2, 0],
         answers: &[],
     },
@@ -207,26 +175,27 @@ fn gives<L: Ledger>(cursor: &mut Cursor<'_>, answers: &[&[u32]], steps: &mut Ste
         && cursor.place() == answers.last().copied()
 }
 
-/// Whether a search gives the answers past the tuple.
-fn gives_past<L: Ledger>(
+/// Whether searches give the answers from the tuple on, and those past it.
+fn gives_around<L: Ledger>(
     reduced: &Reduced<'_>,
     answers: &[&[u32]],
-    past: &[u32],
-    inclusive: bool,
+    tuple: &[u32],
     steps: &mut Steps<L>,
 ) -> bool {
-    if past.len() != reduced.classes().len() {
+    if tuple.len() != reduced.classes().len() {
         return false;
     }
     let mut from = 0;
-    while from < answers.len() && (answers[from] < past || (!inclusive && answers[from] == past)) {
+    while from < answers.len() && answers[from] < tuple {
         from += 1;
     }
-    gives(
-        &mut Cursor::seek(reduced, past, inclusive, steps),
-        &answers[from..],
-        steps,
-    )
+    let rest = &answers[from..];
+    let past = match rest.first() {
+        Some(answer) if *answer == tuple => &rest[1..],
+        _ => rest,
+    };
+    gives(&mut Cursor::seek(reduced, tuple, true, steps), rest, steps)
+        && gives(&mut Cursor::seek(reduced, tuple, false, steps), past, steps)
 }
 
 fn is_met<L: Ledger>(alloc: Global, case: &Case, blank: Blank) -> Result<bool, AllocError>
@@ -246,17 +215,15 @@ fn gives_all<L: Ledger>(reduced: &Reduced<'_>, case: &Case, steps: &mut Steps<L>
     if reduced.classes() != case.classes {
         return false;
     }
-    for past in case.answers {
-        if !gives_past(reduced, case.answers, *past, false, steps)
-            || !gives_past(reduced, case.answers, *past, true, steps)
-        {
+    for answer in case.answers {
+        if !gives_around(reduced, case.answers, *answer, steps) {
             return false;
         }
     }
     gives(&mut Cursor::start(reduced), case.answers, steps)
 }
 
-/// Whether a search gives the answers past each tuple of three objects.
+/// Whether searches give the answers from each tuple of three objects on, and those past it.
 fn is_met_past_each<L: Ledger>(alloc: Global, case: &Case, blank: Blank) -> Result<bool, AllocError>
     requires name { blank.name ≡ L.name }
     requires parts { blank.parts ≡ L.parts }
@@ -271,10 +238,8 @@ fn is_met_past_each<L: Ledger>(alloc: Global, case: &Case, blank: Blank) -> Resu
 
 fn gives_past_each<L: Ledger>(reduced: &Reduced<'_>, case: &Case, steps: &mut Steps<L>) -> bool {
     for n in 0..27 {
-        let past = [n / 9, n / 3 % 3, n % 3];
-        if !gives_past(reduced, case.answers, &past, false, steps)
-            || !gives_past(reduced, case.answers, &past, true, steps)
-        {
+        let tuple = [n / 9, n / 3 % 3, n % 3];
+        if !gives_around(reduced, case.answers, &tuple, steps) {
             return false;
         }
     }
@@ -294,13 +259,8 @@ fn pairs_of<L: Ledger>(
             flat.push(second)?;
         }
     }
-    let pairs = Rows {
-        arity: 2,
-        rows: 10_000,
-        flat: &flat,
-    };
     let slots = slots_of(alloc, edge)?;
-    relation_of(alloc, pairs, &slots, steps)
+    relation_of(alloc, Rows(2, 10_000, &flat), &slots, steps)
 }
 
 /// How many answers the join of two relations with all pairs has, over three classes. The cursor is given no

@@ -2,7 +2,7 @@
 
 ghost use Rattle.std.specs.Prelude.{◌≡◌, ◌<◌};
 
-use crate::given::{NONE, ONE, Rows, projected, reads, relation_of};
+use crate::given::{CIRCLE, NONE, ONE, PAIR, Rows, projected, reads, relation_of};
 use Slot::Class;
 use pl_join::{Relation, Slot};
 use pl_kernel::core_table;
@@ -13,12 +13,7 @@ use std::sync::ledger::{Blank, Ledger};
 use std::test::Fail;
 
 /// One of the relations: the rows of a table, what stands in its columns, and the classes in their order.
-#[derive(Clone, Copy)]
-struct Part {
-    from: Rows<'static>,
-    slots: &'static [Slot],
-    classes: &'static [u32],
-}
+type Part = (Rows<'static>, &'static [Slot], &'static [u32]);
 
 /// The relations of a core, and the classes and rows of their join.
 struct Case {
@@ -27,48 +22,16 @@ struct Case {
     rows: &'static [&'static [u32]],
 }
 
-const EDGES: Rows<'static> = Rows {
-    arity: 2,
-    rows: 3,
-    flat: &[0, 1, 1, 2, 2, 0],
-};
+const NO_EDGE: Rows<'static> = Rows(2, 0, &[]);
 
-const PAIRS: Rows<'static> = Rows {
-    arity: 2,
-    rows: 2,
-    flat: &[0, 1, 1, 0],
-};
-
-const NO_EDGE: Rows<'static> = Rows {
-    arity: 2,
-    rows: 0,
-    flat: &[],
-};
-
-const UNITS: Rows<'static> = Rows {
-    arity: 1,
-    rows: 2,
-    flat: &[1, 2],
-};
+const UNITS: Rows<'static> = Rows(1, 2, &[1, 2]);
 
 /// Edges from class 0 to 1, from 1 to 2 and from 2 to 0.
-const FROM_0_TO_1: Part = Part {
-    from: EDGES,
-    slots: &[Class(0), Class(1)],
-    classes: &[0, 1],
-};
+const FROM_0_TO_1: Part = (CIRCLE, &[Class(0), Class(1)], &[0, 1]);
 
-const FROM_1_TO_2: Part = Part {
-    from: EDGES,
-    slots: &[Class(1), Class(2)],
-    classes: &[1, 2],
-};
+const FROM_1_TO_2: Part = (CIRCLE, &[Class(1), Class(2)], &[1, 2]);
 
-const FROM_2_TO_0: Part = Part {
-    from: EDGES,
-    slots: &[Class(2), Class(0)],
-    classes: &[0, 2],
-};
+const FROM_2_TO_0: Part = (CIRCLE, &[Class(2), Class(0)], &[0, 2]);
 
 const CASES: &[Case] = &[
     // the triangle, and its sides in another order
@@ -87,11 +50,7 @@ const CASES: &[Case] = &[
         core: &[
             FROM_0_TO_1,
             FROM_1_TO_2,
-            Part {
-                from: EDGES,
-                slots: &[Class(0), Class(2)],
-                classes: &[0, 2],
-            },
+            (CIRCLE, &[Class(0), Class(2)], &[0, 2]),
         ],
         classes: &[0, 1, 2],
         rows: &[],
@@ -103,26 +62,14 @@ const CASES: &[Case] = &[
         rows: &[&[0, 1], &[1, 2], &[2, 0]],
     },
     Case {
-        core: &[Part {
-            from: EDGES,
-            slots: &[Class(5), Class(9)],
-            classes: &[9, 5],
-        }],
+        core: &[(CIRCLE, &[Class(5), Class(9)], &[9, 5])],
         classes: &[5, 9],
         rows: &[&[0, 1], &[1, 2], &[2, 0]],
     },
     Case {
         core: &[
-            Part {
-                from: EDGES,
-                slots: &[Class(5), Class(9)],
-                classes: &[9, 5],
-            },
-            Part {
-                from: UNITS,
-                slots: &[Class(9)],
-                classes: &[9],
-            },
+            (CIRCLE, &[Class(5), Class(9)], &[9, 5]),
+            (UNITS, &[Class(9)], &[9]),
         ],
         classes: &[5, 9],
         rows: &[&[0, 1], &[1, 2]],
@@ -130,31 +77,15 @@ const CASES: &[Case] = &[
     // no shared class
     Case {
         core: &[
-            Part {
-                from: UNITS,
-                slots: &[Class(7)],
-                classes: &[7],
-            },
-            Part {
-                from: PAIRS,
-                slots: &[Class(3), Class(1)],
-                classes: &[1, 3],
-            },
+            (UNITS, &[Class(7)], &[7]),
+            (PAIR, &[Class(3), Class(1)], &[1, 3]),
         ],
         classes: &[7, 1, 3],
         rows: &[&[1, 0, 1], &[1, 1, 0], &[2, 0, 1], &[2, 1, 0]],
     },
     // the second is joined last, and its classes stand before those of the third
     Case {
-        core: &[
-            FROM_0_TO_1,
-            Part {
-                from: UNITS,
-                slots: &[Class(8)],
-                classes: &[8],
-            },
-            FROM_1_TO_2,
-        ],
+        core: &[FROM_0_TO_1, (UNITS, &[Class(8)], &[8]), FROM_1_TO_2],
         classes: &[0, 1, 8, 2],
         rows: &[
             &[0, 1, 1, 2],
@@ -175,11 +106,7 @@ const CASES: &[Case] = &[
     Case {
         core: &[
             FROM_0_TO_1,
-            Part {
-                from: NO_EDGE,
-                slots: &[Class(1), Class(63)],
-                classes: &[1, 63],
-            },
+            (NO_EDGE, &[Class(1), Class(63)], &[1, 63]),
             FROM_2_TO_0,
         ],
         classes: &[0, 1, 63, 2],
@@ -187,35 +114,17 @@ const CASES: &[Case] = &[
     },
     // no class: the empty row, and no row
     Case {
-        core: &[
-            Part {
-                from: ONE,
-                slots: &[],
-                classes: &[],
-            },
-            FROM_0_TO_1,
-        ],
+        core: &[(ONE, &[], &[]), FROM_0_TO_1],
         classes: &[0, 1],
         rows: &[&[0, 1], &[1, 2], &[2, 0]],
     },
     Case {
-        core: &[
-            FROM_0_TO_1,
-            Part {
-                from: NONE,
-                slots: &[],
-                classes: &[],
-            },
-        ],
+        core: &[FROM_0_TO_1, (NONE, &[], &[])],
         classes: &[0, 1],
         rows: &[],
     },
     Case {
-        core: &[Part {
-            from: ONE,
-            slots: &[],
-            classes: &[],
-        }],
+        core: &[(ONE, &[], &[])],
         classes: &[],
         rows: &[&[]],
     },
@@ -227,9 +136,10 @@ fn relation_by<L: Ledger>(
     part: Part,
     steps: &mut Steps<L>,
 ) -> Result<Option<Relation>, AllocError> {
-    match relation_of(alloc, part.from, part.slots, steps)? {
+    let (table, slots, classes) = part;
+    match relation_of(alloc, table, slots, steps)? {
         None => Ok(None),
-        Some(relation) => projected(alloc, &relation, part.classes, steps),
+        Some(relation) => projected(alloc, &relation, classes, steps),
     }
 }
 

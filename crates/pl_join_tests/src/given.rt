@@ -7,35 +7,36 @@ use pl_steps::Steps;
 use std::alloc::{AllocError, Global};
 use std::sync::ledger::Ledger;
 
-/// The rows of a table, one after another.
+/// The rows of a table: how many values each has, how many rows there are, and their values one after another.
 #[derive(Clone, Copy)]
-pub struct Rows<'a> {
-    pub arity: u32,
-    pub rows: usize,
-    pub flat: &'a [u32],
-}
+pub struct Rows<'a>(pub u32, pub usize, pub &'a [u32]);
 
 /// The empty row.
-pub const ONE: Rows<'static> = Rows {
-    arity: 0,
-    rows: 1,
-    flat: &[],
-};
+pub const ONE: Rows<'static> = Rows(0, 1, &[]);
 
 /// No row, of no column.
-pub const NONE: Rows<'static> = Rows {
-    arity: 0,
-    rows: 0,
-    flat: &[],
-};
+pub const NONE: Rows<'static> = Rows(0, 0, &[]);
+
+/// The objects a, b and c, which are 0, 1 and 2.
+pub const OBJECTS: Rows<'static> = Rows(1, 3, &[0, 1, 2]);
+
+/// The edge of a and b, both ways.
+pub const PAIR: Rows<'static> = Rows(2, 2, &[0, 1, 1, 0]);
+
+/// The edges of the path a - b - c, both ways: a b, c b, b a and b c.
+pub const PATH: Rows<'static> = Rows(2, 4, &[0, 1, 2, 1, 1, 0, 1, 2]);
+
+/// The edges of a circle, one way: a b, b c and c a.
+pub const CIRCLE: Rows<'static> = Rows(2, 3, &[0, 1, 1, 2, 2, 0]);
 
 /// The table of the rows; None where they are not as many as they say.
 pub fn table_of(alloc: Global, rows: Rows<'_>) -> Result<Option<Table>, AllocError> {
-    if (rows.arity as usize).checked_mul(rows.rows) != Some(rows.flat.len()) {
+    let Rows(arity, count, flat) = rows;
+    if (arity as usize).checked_mul(count) != Some(flat.len()) {
         return Ok(None);
     }
-    let flat = Vec::from_slice(alloc, rows.flat)?;
-    Ok(Some(Table::from_rows(alloc, rows.arity, rows.rows, flat)?))
+    let flat = Vec::from_slice(alloc, flat)?;
+    Ok(Some(Table::from_rows(alloc, arity, count, flat)?))
 }
 
 /// Whether these are the table's rows, in its order.

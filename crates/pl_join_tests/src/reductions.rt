@@ -3,7 +3,7 @@
 ghost use Rattle.std.specs.Prelude.{◌≡◌, ◌<◌};
 ghost use Rattle.pl_reduce.specs.Recipes.{AreGiven};
 
-use crate::given::{NONE, ONE, Rows, reads, relation_of};
+use crate::given::{CIRCLE, NONE, OBJECTS, ONE, PAIR, PATH, Rows, reads, relation_of};
 use Slot::Class;
 use pl_hyper::{Ear, EarPlan, ears};
 use pl_join::{Relation, Slot, hash_join};
@@ -15,18 +15,10 @@ use std::sync::ledger::{Blank, Ledger};
 use std::test::Fail;
 
 /// A table, and what stands at its columns.
-#[derive(Clone, Copy)]
-struct Atom {
-    table: Rows<'static>,
-    slots: &'static [Slot],
-}
+struct Atom(Rows<'static>, &'static [Slot]);
 
 /// A node's classes, the width of its key, and its rows.
-struct Node {
-    classes: &'static [u32],
-    width: u32,
-    rows: &'static [&'static [u32]],
-}
+struct Node(&'static [u32], u32, &'static [&'static [u32]]);
 
 /// A join: an edge and an atom for each of its relations, and what the reduction makes of it.
 struct Case {
@@ -37,95 +29,36 @@ struct Case {
     is_empty: bool,
 }
 
-/// The objects a, b and c, which are 0, 1 and 2.
-const THREE: Rows<'static> = Rows {
-    arity: 1,
-    rows: 3,
-    flat: &[0, 1, 2],
-};
-
-/// The edges of the path a - b - c, both ways.
-const PATH: Rows<'static> = Rows {
-    arity: 2,
-    rows: 4,
-    flat: &[0, 1, 2, 1, 1, 0, 1, 2],
-};
-
-const CIRCLE: Rows<'static> = Rows {
-    arity: 2,
-    rows: 3,
-    flat: &[0, 1, 1, 2, 2, 0],
-};
-
 /// No row of one column.
-const EMPTY: Rows<'static> = Rows {
-    arity: 1,
-    rows: 0,
-    flat: &[],
-};
+const EMPTY: Rows<'static> = Rows(1, 0, &[]);
 
 /// The objects of eight layers of two, and of the chain 14 to 21 through them.
-const ALL: Rows<'static> = Rows {
-    arity: 1,
-    rows: 24,
-    flat: &[
+const ALL: Rows<'static> = Rows(
+    1,
+    24,
+    &[
         0, 1, 2, 3, 4, 5, 6, 7, 8, 9, 10, 11, 12, 13, 14, 15, 16, 17, 18, 19, 20, 21, 22, 23,
     ],
-};
+);
 
 const CASES: &[Case] = &[
     // walks of two steps: the type of each parameter, and then the steps; no row dangles
     Case {
         edges: &[0b001, 0b010, 0b100, 0b011, 0b110],
         atoms: &[
-            Atom {
-                table: THREE,
-                slots: &[Class(0)],
-            },
-            Atom {
-                table: THREE,
-                slots: &[Class(1)],
-            },
-            Atom {
-                table: THREE,
-                slots: &[Class(2)],
-            },
-            Atom {
-                table: PATH,
-                slots: &[Class(0), Class(1)],
-            },
-            Atom {
-                table: PATH,
-                slots: &[Class(1), Class(2)],
-            },
+            Atom(OBJECTS, &[Class(0)]),
+            Atom(OBJECTS, &[Class(1)]),
+            Atom(OBJECTS, &[Class(2)]),
+            Atom(PATH, &[Class(0), Class(1)]),
+            Atom(PATH, &[Class(1), Class(2)]),
         ],
         classes: &[1, 2, 0],
         nodes: &[
-            Node {
-                classes: &[1, 2],
-                width: 0,
-                rows: &[&[0, 1], &[1, 0], &[1, 2], &[2, 1]],
-            },
-            Node {
-                classes: &[0],
-                width: 1,
-                rows: &[&[0], &[1], &[2]],
-            },
-            Node {
-                classes: &[1],
-                width: 1,
-                rows: &[&[0], &[1], &[2]],
-            },
-            Node {
-                classes: &[2],
-                width: 1,
-                rows: &[&[0], &[1], &[2]],
-            },
-            Node {
-                classes: &[1, 0],
-                width: 1,
-                rows: &[&[0, 1], &[1, 0], &[1, 2], &[2, 1]],
-            },
+            Node(&[1, 2], 0, &[&[0, 1], &[1, 0], &[1, 2], &[2, 1]]),
+            Node(&[0], 1, &[&[0], &[1], &[2]]),
+            Node(&[1], 1, &[&[0], &[1], &[2]]),
+            Node(&[2], 1, &[&[0], &[1], &[2]]),
+            Node(&[1, 0], 1, &[&[0, 1], &[1, 0], &[1, 2], &[2, 1]]),
         ],
         is_empty: false,
     },
@@ -133,49 +66,17 @@ const CASES: &[Case] = &[
     Case {
         edges: &[0b01, 0b10, 0b01, 0b10],
         atoms: &[
-            Atom {
-                table: THREE,
-                slots: &[Class(0)],
-            },
-            Atom {
-                table: THREE,
-                slots: &[Class(1)],
-            },
-            Atom {
-                table: Rows {
-                    arity: 1,
-                    rows: 2,
-                    flat: &[0, 1],
-                },
-                slots: &[Class(0)],
-            },
-            Atom {
-                table: EMPTY,
-                slots: &[Class(1)],
-            },
+            Atom(OBJECTS, &[Class(0)]),
+            Atom(OBJECTS, &[Class(1)]),
+            Atom(Rows(1, 2, &[0, 1]), &[Class(0)]),
+            Atom(EMPTY, &[Class(1)]),
         ],
         classes: &[1, 0],
         nodes: &[
-            Node {
-                classes: &[1],
-                width: 0,
-                rows: &[],
-            },
-            Node {
-                classes: &[0],
-                width: 1,
-                rows: &[],
-            },
-            Node {
-                classes: &[1],
-                width: 1,
-                rows: &[],
-            },
-            Node {
-                classes: &[0],
-                width: 0,
-                rows: &[],
-            },
+            Node(&[1], 0, &[]),
+            Node(&[0], 1, &[]),
+            Node(&[1], 1, &[]),
+            Node(&[0], 0, &[]),
         ],
         is_empty: true,
     },
@@ -199,315 +100,107 @@ const CASES: &[Case] = &[
             0b1100_0000,
         ],
         atoms: &[
-            Atom {
-                table: ALL,
-                slots: &[Class(0)],
-            },
-            Atom {
-                table: ALL,
-                slots: &[Class(1)],
-            },
-            Atom {
-                table: ALL,
-                slots: &[Class(2)],
-            },
-            Atom {
-                table: ALL,
-                slots: &[Class(3)],
-            },
-            Atom {
-                table: ALL,
-                slots: &[Class(4)],
-            },
-            Atom {
-                table: ALL,
-                slots: &[Class(5)],
-            },
-            Atom {
-                table: ALL,
-                slots: &[Class(6)],
-            },
-            Atom {
-                table: ALL,
-                slots: &[Class(7)],
-            },
-            Atom {
-                table: Rows {
-                    arity: 2,
-                    rows: 5,
-                    flat: &[0, 2, 0, 3, 1, 2, 1, 3, 14, 15],
-                },
-                slots: &[Class(0), Class(1)],
-            },
-            Atom {
-                table: Rows {
-                    arity: 2,
-                    rows: 5,
-                    flat: &[2, 4, 2, 5, 3, 4, 3, 5, 15, 16],
-                },
-                slots: &[Class(1), Class(2)],
-            },
-            Atom {
-                table: Rows {
-                    arity: 2,
-                    rows: 5,
-                    flat: &[4, 6, 4, 7, 5, 6, 5, 7, 16, 17],
-                },
-                slots: &[Class(2), Class(3)],
-            },
-            Atom {
-                table: Rows {
-                    arity: 2,
-                    rows: 5,
-                    flat: &[6, 8, 6, 9, 7, 8, 7, 9, 17, 18],
-                },
-                slots: &[Class(3), Class(4)],
-            },
-            Atom {
-                table: Rows {
-                    arity: 2,
-                    rows: 5,
-                    flat: &[8, 10, 8, 11, 9, 10, 9, 11, 18, 19],
-                },
-                slots: &[Class(4), Class(5)],
-            },
-            Atom {
-                table: Rows {
-                    arity: 2,
-                    rows: 5,
-                    flat: &[10, 12, 10, 13, 11, 12, 11, 13, 19, 20],
-                },
-                slots: &[Class(5), Class(6)],
-            },
-            Atom {
-                table: Rows {
-                    arity: 2,
-                    rows: 5,
-                    flat: &[22, 22, 22, 23, 23, 22, 23, 23, 20, 21],
-                },
-                slots: &[Class(6), Class(7)],
-            },
+            Atom(ALL, &[Class(0)]),
+            Atom(ALL, &[Class(1)]),
+            Atom(ALL, &[Class(2)]),
+            Atom(ALL, &[Class(3)]),
+            Atom(ALL, &[Class(4)]),
+            Atom(ALL, &[Class(5)]),
+            Atom(ALL, &[Class(6)]),
+            Atom(ALL, &[Class(7)]),
+            Atom(
+                Rows(2, 5, &[0, 2, 0, 3, 1, 2, 1, 3, 14, 15]),
+                &[Class(0), Class(1)],
+            ),
+            Atom(
+                Rows(2, 5, &[2, 4, 2, 5, 3, 4, 3, 5, 15, 16]),
+                &[Class(1), Class(2)],
+            ),
+            Atom(
+                Rows(2, 5, &[4, 6, 4, 7, 5, 6, 5, 7, 16, 17]),
+                &[Class(2), Class(3)],
+            ),
+            Atom(
+                Rows(2, 5, &[6, 8, 6, 9, 7, 8, 7, 9, 17, 18]),
+                &[Class(3), Class(4)],
+            ),
+            Atom(
+                Rows(2, 5, &[8, 10, 8, 11, 9, 10, 9, 11, 18, 19]),
+                &[Class(4), Class(5)],
+            ),
+            Atom(
+                Rows(2, 5, &[10, 12, 10, 13, 11, 12, 11, 13, 19, 20]),
+                &[Class(5), Class(6)],
+            ),
+            Atom(
+                Rows(2, 5, &[22, 22, 22, 23, 23, 22, 23, 23, 20, 21]),
+                &[Class(6), Class(7)],
+            ),
         ],
         classes: &[6, 7, 5, 4, 3, 2, 1, 0],
         nodes: &[
-            Node {
-                classes: &[6, 7],
-                width: 0,
-                rows: &[&[20, 21]],
-            },
-            Node {
-                classes: &[0],
-                width: 1,
-                rows: &[&[14]],
-            },
-            Node {
-                classes: &[1],
-                width: 1,
-                rows: &[&[15]],
-            },
-            Node {
-                classes: &[2],
-                width: 1,
-                rows: &[&[16]],
-            },
-            Node {
-                classes: &[3],
-                width: 1,
-                rows: &[&[17]],
-            },
-            Node {
-                classes: &[4],
-                width: 1,
-                rows: &[&[18]],
-            },
-            Node {
-                classes: &[5],
-                width: 1,
-                rows: &[&[19]],
-            },
-            Node {
-                classes: &[6],
-                width: 1,
-                rows: &[&[20]],
-            },
-            Node {
-                classes: &[7],
-                width: 1,
-                rows: &[&[21]],
-            },
-            Node {
-                classes: &[1, 0],
-                width: 1,
-                rows: &[&[15, 14]],
-            },
-            Node {
-                classes: &[2, 1],
-                width: 1,
-                rows: &[&[16, 15]],
-            },
-            Node {
-                classes: &[3, 2],
-                width: 1,
-                rows: &[&[17, 16]],
-            },
-            Node {
-                classes: &[4, 3],
-                width: 1,
-                rows: &[&[18, 17]],
-            },
-            Node {
-                classes: &[5, 4],
-                width: 1,
-                rows: &[&[19, 18]],
-            },
-            Node {
-                classes: &[6, 5],
-                width: 1,
-                rows: &[&[20, 19]],
-            },
+            Node(&[6, 7], 0, &[&[20, 21]]),
+            Node(&[0], 1, &[&[14]]),
+            Node(&[1], 1, &[&[15]]),
+            Node(&[2], 1, &[&[16]]),
+            Node(&[3], 1, &[&[17]]),
+            Node(&[4], 1, &[&[18]]),
+            Node(&[5], 1, &[&[19]]),
+            Node(&[6], 1, &[&[20]]),
+            Node(&[7], 1, &[&[21]]),
+            Node(&[1, 0], 1, &[&[15, 14]]),
+            Node(&[2, 1], 1, &[&[16, 15]]),
+            Node(&[3, 2], 1, &[&[17, 16]]),
+            Node(&[4, 3], 1, &[&[18, 17]]),
+            Node(&[5, 4], 1, &[&[19, 18]]),
+            Node(&[6, 5], 1, &[&[20, 19]]),
         ],
         is_empty: false,
     },
     // a root alone
     Case {
         edges: &[0b101],
-        atoms: &[Atom {
-            table: CIRCLE,
-            slots: &[Class(2), Class(0)],
-        }],
+        atoms: &[Atom(CIRCLE, &[Class(2), Class(0)])],
         classes: &[0, 2],
-        nodes: &[Node {
-            classes: &[0, 2],
-            width: 0,
-            rows: &[&[0, 2], &[1, 0], &[2, 1]],
-        }],
+        nodes: &[Node(&[0, 2], 0, &[&[0, 2], &[1, 0], &[2, 1]])],
         is_empty: false,
     },
     // a node without a class, with the empty row and without a row
     Case {
         edges: &[0, 0b1],
-        atoms: &[
-            Atom {
-                table: ONE,
-                slots: &[],
-            },
-            Atom {
-                table: THREE,
-                slots: &[Class(0)],
-            },
-        ],
+        atoms: &[Atom(ONE, &[]), Atom(OBJECTS, &[Class(0)])],
         classes: &[0],
-        nodes: &[
-            Node {
-                classes: &[0],
-                width: 0,
-                rows: &[&[0], &[1], &[2]],
-            },
-            Node {
-                classes: &[],
-                width: 0,
-                rows: &[&[]],
-            },
-        ],
+        nodes: &[Node(&[0], 0, &[&[0], &[1], &[2]]), Node(&[], 0, &[&[]])],
         is_empty: false,
     },
     Case {
         edges: &[0, 0b1],
-        atoms: &[
-            Atom {
-                table: NONE,
-                slots: &[],
-            },
-            Atom {
-                table: THREE,
-                slots: &[Class(0)],
-            },
-        ],
+        atoms: &[Atom(NONE, &[]), Atom(OBJECTS, &[Class(0)])],
         classes: &[0],
-        nodes: &[
-            Node {
-                classes: &[0],
-                width: 0,
-                rows: &[],
-            },
-            Node {
-                classes: &[],
-                width: 0,
-                rows: &[],
-            },
-        ],
+        nodes: &[Node(&[0], 0, &[]), Node(&[], 0, &[])],
         is_empty: true,
     },
     // the same as the root
     Case {
         edges: &[0b1, 0],
-        atoms: &[
-            Atom {
-                table: THREE,
-                slots: &[Class(0)],
-            },
-            Atom {
-                table: ONE,
-                slots: &[],
-            },
-        ],
+        atoms: &[Atom(OBJECTS, &[Class(0)]), Atom(ONE, &[])],
         classes: &[0],
-        nodes: &[
-            Node {
-                classes: &[],
-                width: 0,
-                rows: &[&[]],
-            },
-            Node {
-                classes: &[0],
-                width: 0,
-                rows: &[&[0], &[1], &[2]],
-            },
-        ],
+        nodes: &[Node(&[], 0, &[&[]]), Node(&[0], 0, &[&[0], &[1], &[2]])],
         is_empty: false,
     },
     // two components
     Case {
         edges: &[0b0011, 0b1100, 0b1000],
         atoms: &[
-            Atom {
-                table: Rows {
-                    arity: 2,
-                    rows: 2,
-                    flat: &[0, 1, 1, 0],
-                },
-                slots: &[Class(0), Class(1)],
-            },
-            Atom {
-                table: CIRCLE,
-                slots: &[Class(2), Class(3)],
-            },
-            Atom {
-                table: Rows {
-                    arity: 1,
-                    rows: 2,
-                    flat: &[2, 1],
-                },
-                slots: &[Class(3)],
-            },
+            Atom(PAIR, &[Class(0), Class(1)]),
+            Atom(CIRCLE, &[Class(2), Class(3)]),
+            Atom(Rows(1, 2, &[2, 1]), &[Class(3)]),
         ],
         classes: &[3, 2, 0, 1],
         nodes: &[
-            Node {
-                classes: &[3],
-                width: 0,
-                rows: &[&[1], &[2]],
-            },
-            Node {
-                classes: &[0, 1],
-                width: 0,
-                rows: &[&[0, 1], &[1, 0]],
-            },
-            Node {
-                classes: &[3, 2],
-                width: 1,
-                rows: &[&[1, 0], &[2, 1]],
-            },
+            Node(&[3], 0, &[&[1], &[2]]),
+            Node(&[0, 1], 0, &[&[0, 1], &[1, 0]]),
+            Node(&[3, 2], 1, &[&[1, 0], &[2, 1]]),
         ],
         is_empty: false,
     },
@@ -515,48 +208,15 @@ const CASES: &[Case] = &[
     Case {
         edges: &[0b0011, 0b0110, 0b1100],
         atoms: &[
-            Atom {
-                table: Rows {
-                    arity: 2,
-                    rows: 2,
-                    flat: &[5, 0, 6, 1],
-                },
-                slots: &[Class(0), Class(1)],
-            },
-            Atom {
-                table: Rows {
-                    arity: 2,
-                    rows: 2,
-                    flat: &[0, 4, 1, 5],
-                },
-                slots: &[Class(1), Class(2)],
-            },
-            Atom {
-                table: Rows {
-                    arity: 2,
-                    rows: 2,
-                    flat: &[4, 8, 7, 9],
-                },
-                slots: &[Class(2), Class(3)],
-            },
+            Atom(Rows(2, 2, &[5, 0, 6, 1]), &[Class(0), Class(1)]),
+            Atom(Rows(2, 2, &[0, 4, 1, 5]), &[Class(1), Class(2)]),
+            Atom(Rows(2, 2, &[4, 8, 7, 9]), &[Class(2), Class(3)]),
         ],
         classes: &[2, 3, 1, 0],
         nodes: &[
-            Node {
-                classes: &[2, 3],
-                width: 0,
-                rows: &[&[4, 8]],
-            },
-            Node {
-                classes: &[1, 0],
-                width: 1,
-                rows: &[&[0, 5]],
-            },
-            Node {
-                classes: &[2, 1],
-                width: 1,
-                rows: &[&[4, 0]],
-            },
+            Node(&[2, 3], 0, &[&[4, 8]]),
+            Node(&[1, 0], 1, &[&[0, 5]]),
+            Node(&[2, 1], 1, &[&[4, 0]]),
         ],
         is_empty: false,
     },
@@ -564,39 +224,15 @@ const CASES: &[Case] = &[
     Case {
         edges: &[0b0011, 0b0110, 0b0101, 0b1100],
         atoms: &[
-            Atom {
-                table: CIRCLE,
-                slots: &[Class(0), Class(1)],
-            },
-            Atom {
-                table: CIRCLE,
-                slots: &[Class(1), Class(2)],
-            },
-            Atom {
-                table: CIRCLE,
-                slots: &[Class(2), Class(0)],
-            },
-            Atom {
-                table: Rows {
-                    arity: 2,
-                    rows: 4,
-                    flat: &[0, 7, 2, 8, 2, 9, 3, 9],
-                },
-                slots: &[Class(2), Class(3)],
-            },
+            Atom(CIRCLE, &[Class(0), Class(1)]),
+            Atom(CIRCLE, &[Class(1), Class(2)]),
+            Atom(CIRCLE, &[Class(2), Class(0)]),
+            Atom(Rows(2, 4, &[0, 7, 2, 8, 2, 9, 3, 9]), &[Class(2), Class(3)]),
         ],
         classes: &[0, 1, 2, 3],
         nodes: &[
-            Node {
-                classes: &[0, 1, 2],
-                width: 0,
-                rows: &[&[0, 1, 2], &[1, 2, 0]],
-            },
-            Node {
-                classes: &[2, 3],
-                width: 1,
-                rows: &[&[0, 7], &[2, 8], &[2, 9]],
-            },
+            Node(&[0, 1, 2], 0, &[&[0, 1, 2], &[1, 2, 0]]),
+            Node(&[2, 3], 1, &[&[0, 7], &[2, 8], &[2, 9]]),
         ],
         is_empty: false,
     },
@@ -611,7 +247,7 @@ fn relation_at<L: Ledger>(
 ) -> Result<Option<Relation>, AllocError> {
     match atoms.get(edge as usize) {
         None => Ok(None),
-        Some(atom) => relation_of(alloc, atom.table, atom.slots, steps),
+        Some(Atom(table, slots)) => relation_of(alloc, *table, slots, steps),
     }
 }
 
@@ -679,11 +315,11 @@ fn has_nodes<L: Ledger>(join: &Reduced<'_>, nodes: &[Node], steps: &mut Steps<L>
     if join.nodes() != nodes.len() {
         return false;
     }
-    for (i, node) in nodes.iter().enumerate() {
-        if join.node_classes(i) != node.classes || join.indexed(i).width() != node.width {
+    for (i, Node(classes, width, rows)) in nodes.iter().enumerate() {
+        if join.node_classes(i) != *classes || join.indexed(i).width() != *width {
             return false;
         }
-        if !reads(join.table(i), node.rows, steps) {
+        if !reads(join.table(i), rows, steps) {
             return false;
         }
     }
@@ -710,17 +346,15 @@ fn is_met<L: Ledger>(alloc: Global, case: &Case, blank: Blank) -> Result<bool, A
     }
 }
 
-/// A copy of the relations of the nodes in the mask, or of those that aren't.
+/// A copy of the relations of the nodes in the mask.
 fn masked(
     alloc: Global,
     relations: &[Relation],
     mask: u64,
-    wanted: bool,
 ) -> Result<Vec<Option<Relation>>, AllocError> {
     let mut some = Vec::new(alloc);
     for (i, relation) in relations.iter().enumerate() {
-        let is_in = i < 64 && mask >> i & 1 == 1;
-        if is_in == wanted {
+        if i < 64 && mask >> i & 1 == 1 {
             some.push(Some(relation.copied(alloc)?))?;
         } else {
             some.push(None)?;
@@ -761,8 +395,8 @@ fn is_met_with<L: Ledger>(
     let Some(nodes) = nodes_of(alloc, case, &plan, steps)? else {
         return Ok(false);
     };
-    let fixed = masked(alloc, &nodes, mask, true)?;
-    let given = masked(alloc, &nodes, mask, false)?;
+    let fixed = masked(alloc, &nodes, mask)?;
+    let given = masked(alloc, &nodes, !mask)?;
     if !Recipe::fits(alloc, &plan, &fixed)? || !Recipe::fits(alloc, &plan, &given)? {
         return Ok(false);
     }

@@ -3,7 +3,7 @@
 ghost use Rattle.std.specs.Prelude.{◌≡◌, ◌<◌};
 
 use crate::classes::{are_distinct, are_held, are_over, is_over};
-use crate::given::{NONE, ONE, Rows, projected, reads, relation_of, table_of};
+use crate::given::{CIRCLE, NONE, ONE, PAIR, Rows, projected, reads, relation_of, table_of};
 use Slot::{Class, Fixed};
 use pl_join::{
     Keyed, Ranges, Relation, Slot, filter_absent, filter_unequal, hash_join, laws, reduction,
@@ -57,35 +57,19 @@ struct Case {
     rows: &'static [&'static [u32]],
 }
 
-const PAIRS: Rows<'static> = Rows {
-    arity: 2,
-    rows: 2,
-    flat: &[0, 1, 1, 0],
-};
-
-const TRIPLES: Rows<'static> = Rows {
-    arity: 3,
-    rows: 4,
-    flat: &[0, 0, 2, 0, 1, 2, 2, 2, 2, 1, 1, 0],
-};
-
-const EDGES: Rows<'static> = Rows {
-    arity: 2,
-    rows: 3,
-    flat: &[0, 1, 1, 2, 2, 0],
-};
+const TRIPLES: Rows<'static> = Rows(3, 4, &[0, 0, 2, 0, 1, 2, 2, 2, 2, 1, 1, 0]);
 
 const CASES: &[Case] = &[
     // a class that stands twice
     Case {
-        from: PAIRS,
+        from: PAIR,
         slots: &[Class(3), Class(3)],
         call: Call::Select,
         classes: &[3],
         rows: &[],
     },
     Case {
-        from: PAIRS,
+        from: PAIR,
         slots: &[Fixed(1), Class(2)],
         call: Call::Select,
         classes: &[2],
@@ -93,7 +77,7 @@ const CASES: &[Case] = &[
     },
     // classes in falling order
     Case {
-        from: EDGES,
+        from: CIRCLE,
         slots: &[Class(63), Class(0)],
         call: Call::Select,
         classes: &[0, 63],
@@ -115,28 +99,28 @@ const CASES: &[Case] = &[
         rows: &[&[0]],
     },
     Case {
-        from: PAIRS,
+        from: PAIR,
         slots: &[Class(1), Class(4)],
         call: Call::Absent(NONE, &[]),
         classes: &[1, 4],
         rows: &[&[0, 1], &[1, 0]],
     },
     Case {
-        from: PAIRS,
+        from: PAIR,
         slots: &[Class(1), Class(4)],
         call: Call::Absent(ONE, &[]),
         classes: &[1, 4],
         rows: &[],
     },
     Case {
-        from: PAIRS,
+        from: PAIR,
         slots: &[Class(1), Class(4)],
-        call: Call::Absent(EDGES, &[Class(4), Class(1)]),
+        call: Call::Absent(CIRCLE, &[Class(4), Class(1)]),
         classes: &[1, 4],
         rows: &[&[0, 1]],
     },
     Case {
-        from: EDGES,
+        from: CIRCLE,
         slots: &[Class(1), Class(4)],
         call: Call::Project(&[]),
         classes: &[],
@@ -165,7 +149,7 @@ const CASES: &[Case] = &[
         rows: &[&[0], &[2]],
     },
     Case {
-        from: EDGES,
+        from: CIRCLE,
         slots: &[Class(3), Class(4)],
         call: Call::Project(&[3, 4]),
         classes: &[3, 4],
@@ -173,28 +157,28 @@ const CASES: &[Case] = &[
     },
     // no shared class, by the empty row and by none
     Case {
-        from: PAIRS,
+        from: PAIR,
         slots: &[Class(1), Class(4)],
         call: Call::With(ONE, &[], Second::Semijoin),
         classes: &[1, 4],
         rows: &[&[0, 1], &[1, 0]],
     },
     Case {
-        from: PAIRS,
+        from: PAIR,
         slots: &[Class(1), Class(4)],
         call: Call::With(NONE, &[], Second::Semijoin),
         classes: &[1, 4],
         rows: &[],
     },
     Case {
-        from: PAIRS,
+        from: PAIR,
         slots: &[Class(1), Class(4)],
         call: Call::With(ONE, &[], Second::Whole(How::ByRows)),
         classes: &[1, 4],
         rows: &[&[0, 1], &[1, 0]],
     },
     Case {
-        from: PAIRS,
+        from: PAIR,
         slots: &[Class(1), Class(4)],
         call: Call::With(NONE, &[], Second::Reduced(How::ByRows)),
         classes: &[1, 4],
@@ -202,32 +186,32 @@ const CASES: &[Case] = &[
     },
     // the first row and the last one are dropped
     Case {
-        from: EDGES,
+        from: CIRCLE,
         slots: &[Class(0), Class(1)],
-        call: Call::With(PAIRS, &[Class(0), Fixed(0)], Second::Reduced(How::ByRows)),
+        call: Call::With(PAIR, &[Class(0), Fixed(0)], Second::Reduced(How::ByRows)),
         classes: &[0, 1],
         rows: &[&[1, 2]],
     },
     Case {
         from: TRIPLES,
         slots: &[Class(5), Class(6), Class(7)],
-        call: Call::With(EDGES, &[Class(6), Fixed(2)], Second::Reduced(How::ByRows)),
+        call: Call::With(CIRCLE, &[Class(6), Fixed(2)], Second::Reduced(How::ByRows)),
         classes: &[5, 6, 7],
         rows: &[&[0, 1, 2], &[1, 1, 0]],
     },
     Case {
-        from: PAIRS,
+        from: PAIR,
         slots: &[Class(1), Class(4)],
-        call: Call::With(EDGES, &[Class(4), Class(9)], Second::Whole(How::ByRows)),
+        call: Call::With(CIRCLE, &[Class(4), Class(9)], Second::Whole(How::ByRows)),
         classes: &[1, 4],
         rows: &[&[0, 1], &[1, 0]],
     },
     // looked up by a key: a row is dropped, and none is
     Case {
-        from: EDGES,
+        from: CIRCLE,
         slots: &[Class(0), Class(1)],
         call: Call::With(
-            PAIRS,
+            PAIR,
             &[Class(1), Class(9)],
             Second::Reduced(How::ByKeyed(&[1])),
         ),
@@ -235,10 +219,10 @@ const CASES: &[Case] = &[
         rows: &[&[0, 1], &[2, 0]],
     },
     Case {
-        from: EDGES,
+        from: CIRCLE,
         slots: &[Class(0), Class(1)],
         call: Call::With(
-            EDGES,
+            CIRCLE,
             &[Class(1), Class(9)],
             Second::Whole(How::ByKeyed(&[1])),
         ),
@@ -247,10 +231,10 @@ const CASES: &[Case] = &[
     },
     // the rows of a key are found, those of the empty key are all, and a small table is gone through
     Case {
-        from: EDGES,
+        from: CIRCLE,
         slots: &[Class(0), Class(1)],
         call: Call::With(
-            PAIRS,
+            PAIR,
             &[Class(1), Fixed(0)],
             Second::Reduced(How::OfKeyed(&[1])),
         ),
@@ -258,14 +242,14 @@ const CASES: &[Case] = &[
         rows: &[&[1, 0]],
     },
     Case {
-        from: PAIRS,
+        from: PAIR,
         slots: &[Class(1), Class(4)],
         call: Call::With(ONE, &[], Second::Whole(How::OfKeyed(&[]))),
         classes: &[1, 4],
         rows: &[&[0, 1], &[1, 0]],
     },
     Case {
-        from: PAIRS,
+        from: PAIR,
         slots: &[Class(1), Class(4)],
         call: Call::With(
             TRIPLES,
@@ -276,10 +260,10 @@ const CASES: &[Case] = &[
         rows: &[&[0, 1]],
     },
     Case {
-        from: PAIRS,
+        from: PAIR,
         slots: &[Class(1), Class(4)],
         call: Call::With(
-            EDGES,
+            CIRCLE,
             &[Class(1), Class(9)],
             Second::Whole(How::OfKeyed(&[1])),
         ),
@@ -288,31 +272,31 @@ const CASES: &[Case] = &[
     },
     // two shared classes, in the other order
     Case {
-        from: PAIRS,
+        from: PAIR,
         slots: &[Class(1), Class(4)],
         call: Call::With(TRIPLES, &[Class(4), Class(1), Class(9)], Second::Semijoin),
         classes: &[1, 4],
         rows: &[&[1, 0]],
     },
     Case {
-        from: EDGES,
+        from: CIRCLE,
         slots: &[Class(0), Class(1)],
-        call: Call::With(EDGES, &[Class(1), Class(2)], Second::Join),
+        call: Call::With(CIRCLE, &[Class(1), Class(2)], Second::Join),
         classes: &[0, 1, 2],
         rows: &[&[0, 1, 2], &[1, 2, 0], &[2, 0, 1]],
     },
     // no shared class
     Case {
-        from: PAIRS,
+        from: PAIR,
         slots: &[Class(0), Fixed(1)],
-        call: Call::With(EDGES, &[Class(2), Fixed(0)], Second::Join),
+        call: Call::With(CIRCLE, &[Class(2), Fixed(0)], Second::Join),
         classes: &[0, 2],
         rows: &[&[0, 2]],
     },
     Case {
         from: ONE,
         slots: &[],
-        call: Call::With(PAIRS, &[Class(8), Class(3)], Second::Join),
+        call: Call::With(PAIR, &[Class(8), Class(3)], Second::Join),
         classes: &[3, 8],
         rows: &[&[0, 1], &[1, 0]],
     },
@@ -324,7 +308,7 @@ const CASES: &[Case] = &[
         rows: &[&[]],
     },
     Case {
-        from: EDGES,
+        from: CIRCLE,
         slots: &[Class(0), Class(1)],
         call: Call::With(NONE, &[], Second::Join),
         classes: &[0, 1],

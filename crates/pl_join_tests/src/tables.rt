@@ -11,231 +11,70 @@ use std::sync::ledger::{Blank, Ledger};
 use std::test::Fail;
 
 /// Rows as they are given, and as the table has them.
-struct Given {
-    from: Rows<'static>,
-    table: &'static [&'static [u32]],
-}
+type Given = (Rows<'static>, &'static [&'static [u32]]);
 
 /// Pairs, of which one stands twice.
-const PAIRS: Rows<'static> = Rows {
-    arity: 2,
-    rows: 3,
-    flat: &[1, 0, 0, 1, 1, 0],
-};
+const PAIRS: Rows<'static> = Rows(2, 3, &[1, 0, 0, 1, 1, 0]);
 
 const GIVEN: &[Given] = &[
-    Given {
-        from: PAIRS,
-        table: &[&[0, 1], &[1, 0]],
-    },
-    Given {
-        from: Rows {
-            arity: 0,
-            rows: 3,
-            flat: &[],
-        },
-        table: &[&[]],
-    },
-    Given {
-        from: Rows {
-            arity: 0,
-            rows: 0,
-            flat: &[],
-        },
-        table: &[],
-    },
-    Given {
-        from: Rows {
-            arity: 3,
-            rows: 0,
-            flat: &[],
-        },
-        table: &[],
-    },
-    Given {
-        from: Rows {
-            arity: 1,
-            rows: 5,
-            flat: &[7, 3, 7, 0, 3],
-        },
-        table: &[&[0], &[3], &[7]],
-    },
-    Given {
-        from: Rows {
-            arity: 2,
-            rows: 2,
-            flat: &[0, 9, 1, 0],
-        },
-        table: &[&[0, 9], &[1, 0]],
-    },
-    Given {
-        from: Rows {
-            arity: 3,
-            rows: 3,
-            flat: &[2, 0, 1, 1, 9, 9, 2, 0, 0],
-        },
-        table: &[&[1, 9, 9], &[2, 0, 0], &[2, 0, 1]],
-    },
-    Given {
-        from: Rows {
-            arity: 5,
-            rows: 3,
-            flat: &[1, 1, 1, 1, 2, 1, 1, 1, 1, 1, 1, 1, 1, 1, 2],
-        },
-        table: &[&[1, 1, 1, 1, 1], &[1, 1, 1, 1, 2]],
-    },
+    (PAIRS, &[&[0, 1], &[1, 0]]),
+    (Rows(0, 3, &[]), &[&[]]),
+    (Rows(0, 0, &[]), &[]),
+    (Rows(3, 0, &[]), &[]),
+    (Rows(1, 5, &[7, 3, 7, 0, 3]), &[&[0], &[3], &[7]]),
+    (Rows(2, 2, &[0, 9, 1, 0]), &[&[0, 9], &[1, 0]]),
+    (
+        Rows(3, 3, &[2, 0, 1, 1, 9, 9, 2, 0, 0]),
+        &[&[1, 9, 9], &[2, 0, 0], &[2, 0, 1]],
+    ),
+    (
+        Rows(5, 3, &[1, 1, 1, 1, 2, 1, 1, 1, 1, 1, 1, 1, 1, 1, 2]),
+        &[&[1, 1, 1, 1, 1], &[1, 1, 1, 1, 2]],
+    ),
 ];
 
 /// A key, how many rows are below it, and how many begin with it.
-struct Asked {
-    key: &'static [u32],
-    below: usize,
-    with: usize,
-}
+type Asked = (&'static [u32], usize, usize);
 
 /// The rows that `ASKED` is about: six rows of three values.
-const SIX: Rows<'static> = Rows {
-    arity: 3,
-    rows: 6,
-    flat: &[
+const SIX: Rows<'static> = Rows(
+    3,
+    6,
+    &[
         1, 2, 3, 1, 2, 5, 1, 4, 0, 2, 0, 0, 2, 0, 7, 4000000000, 4, 4,
     ],
-};
+);
 
 const ASKED: &[Asked] = &[
-    Asked {
-        key: &[],
-        below: 0,
-        with: 6,
-    },
-    Asked {
-        key: &[0],
-        below: 0,
-        with: 0,
-    },
-    Asked {
-        key: &[1],
-        below: 0,
-        with: 3,
-    },
-    Asked {
-        key: &[2],
-        below: 3,
-        with: 2,
-    },
-    Asked {
-        key: &[3],
-        below: 5,
-        with: 0,
-    },
-    Asked {
-        key: &[100000],
-        below: 5,
-        with: 0,
-    },
-    Asked {
-        key: &[4000000000],
-        below: 5,
-        with: 1,
-    },
-    Asked {
-        key: &[4294967295],
-        below: 6,
-        with: 0,
-    },
-    Asked {
-        key: &[1, 1],
-        below: 0,
-        with: 0,
-    },
-    Asked {
-        key: &[1, 2],
-        below: 0,
-        with: 2,
-    },
-    Asked {
-        key: &[1, 3],
-        below: 2,
-        with: 0,
-    },
-    Asked {
-        key: &[2, 0],
-        below: 3,
-        with: 2,
-    },
-    Asked {
-        key: &[2, 1],
-        below: 5,
-        with: 0,
-    },
-    Asked {
-        key: &[1, 2, 3],
-        below: 0,
-        with: 1,
-    },
-    Asked {
-        key: &[1, 2, 4],
-        below: 1,
-        with: 0,
-    },
-    Asked {
-        key: &[2, 0, 7],
-        below: 4,
-        with: 1,
-    },
-    Asked {
-        key: &[4000000000, 4, 4],
-        below: 5,
-        with: 1,
-    },
-    Asked {
-        key: &[4000000000, 4, 5],
-        below: 6,
-        with: 0,
-    },
+    (&[], 0, 6),
+    (&[0], 0, 0),
+    (&[1], 0, 3),
+    (&[2], 3, 2),
+    (&[3], 5, 0),
+    (&[100000], 5, 0),
+    (&[4000000000], 5, 1),
+    (&[4294967295], 6, 0),
+    (&[1, 1], 0, 0),
+    (&[1, 2], 0, 2),
+    (&[1, 3], 2, 0),
+    (&[2, 0], 3, 2),
+    (&[2, 1], 5, 0),
+    (&[1, 2, 3], 0, 1),
+    (&[1, 2, 4], 1, 0),
+    (&[2, 0, 7], 4, 1),
+    (&[4000000000, 4, 4], 5, 1),
+    (&[4000000000, 4, 5], 6, 0),
 ];
 
 const ASKED_IN_LONG_RUN: &[Asked] = &[
-    Asked {
-        key: &[5, 0],
-        below: 0,
-        with: 2,
-    },
-    Asked {
-        key: &[5, 147],
-        below: 98,
-        with: 2,
-    },
-    Asked {
-        key: &[5, 30, 1],
-        below: 21,
-        with: 1,
-    },
-    Asked {
-        key: &[5, 30, 2],
-        below: 22,
-        with: 0,
-    },
-    Asked {
-        key: &[5, 31],
-        below: 22,
-        with: 0,
-    },
-    Asked {
-        key: &[5, 148],
-        below: 100,
-        with: 0,
-    },
-    Asked {
-        key: &[4, 9],
-        below: 0,
-        with: 0,
-    },
-    Asked {
-        key: &[6, 0],
-        below: 100,
-        with: 0,
-    },
+    (&[5, 0], 0, 2),
+    (&[5, 147], 98, 2),
+    (&[5, 30, 1], 21, 1),
+    (&[5, 30, 2], 22, 0),
+    (&[5, 31], 22, 0),
+    (&[5, 148], 100, 0),
+    (&[4, 9], 0, 0),
+    (&[6, 0], 100, 0),
 ];
 
 fn is_given<L: Ledger>(alloc: Global, given: &Given, blank: Blank) -> Result<bool, AllocError>
@@ -244,14 +83,15 @@ fn is_given<L: Ledger>(alloc: Global, given: &Given, blank: Blank) -> Result<boo
     requires some { 0 < blank.parts }
 {
     let mut steps: Steps<L> = Steps::new(blank);
-    match table_of(alloc, given.from)? {
-        None => Ok(false),
-        Some(table) => Ok(
-            table.arity() == given.from.arity
-                && reads(&table, given.table, &mut steps)
-                && is_copied(alloc, &table, given.table, &mut steps)?,
-        ),
-    }
+    let (from, rows) = *given;
+    let Some(table) = table_of(alloc, from)? else {
+        return Ok(false);
+    };
+    Ok(
+        table.arity() == from.0
+            && reads(&table, rows, &mut steps)
+            && is_copied(alloc, &table, rows, &mut steps)?,
+    )
 }
 
 /// Whether a copy has the rows, and so has a table that is made of its first half and the rows behind it.
@@ -285,36 +125,48 @@ fn rebuilt<L: Ledger>(
     Ok(Some(builder.into_table(alloc)?))
 }
 
+/// Whether the key is found where it is in the table, and also where the index is one that lasts.
 fn finds<L: Ledger>(
     alloc: Global,
     table: Table,
     asked: &Asked,
     steps: &mut Steps<L>,
 ) -> Result<bool, AllocError> {
-    let Ok(width) = u32::try_from(asked.key.len()) else {
+    let (key, below, with) = *asked;
+    let Ok(width) = u32::try_from(key.len()) else {
         return Ok(false);
     };
     if table.arity() < width {
         return Ok(false);
     }
+    let count = table.len();
     let indexed = Indexed::build(alloc, table, width, steps)?;
-    if indexed.table().len() != 6 || indexed.width() as usize != asked.key.len() {
+    if indexed.table().len() != count || indexed.width() != width {
         return Ok(false);
     }
     let want = Range {
-        from: asked.below,
-        to: asked.below.wrapping_add(asked.with),
+        from: below,
+        to: below.wrapping_add(with),
     };
-    Ok(indexed.find(asked.key, steps) == want)
+    if indexed.find(key, steps) != want {
+        return Ok(false);
+    }
+    let lasting = indexed.lasting(alloc)?;
+    Ok(lasting.find(key, steps) == want)
 }
 
-/// Whether the table is found to have the asked row, or not to have it, from each place on.
-fn has_from_each_place<L: Ledger>(table: &Table, asked: &Asked, steps: &mut Steps<L>) -> bool
-    requires { length asked.now.key.now ≡ table.now.arity }
+/// Whether the row is found to be in the table, or not to be, from each place on.
+fn has_from_each_place<L: Ledger>(
+    table: &Table,
+    row: &[u32],
+    is_there: bool,
+    steps: &mut Steps<L>,
+) -> bool
+    requires { length row.now ≡ table.now.arity }
 {
     for place in 0..9 {
         let mut near = place;
-        if table.has_near(asked.key, &mut near, steps) != (asked.with == 1) {
+        if table.has_near(row, &mut near, steps) != is_there {
             return false;
         }
     }
@@ -330,15 +182,16 @@ fn is_answered<L: Ledger>(alloc: Global, asked: &Asked, blank: Blank) -> Result<
     let Some(table) = table_of(alloc, SIX)? else {
         return Ok(false);
     };
+    let (key, below, with) = *asked;
     let arity = table.arity() as usize;
-    if asked.key.len() > arity || table.first_from(asked.key, &mut steps) != asked.below {
+    if table.len() != 6 || key.len() > arity || table.first_from(key, &mut steps) != below {
         return Ok(false);
     }
-    if asked.key.len() == arity {
-        if table.has(asked.key, &mut steps) != (asked.with == 1) {
+    if key.len() == arity {
+        if table.has(key, &mut steps) != (with == 1) {
             return Ok(false);
         }
-        if !has_from_each_place(&table, asked, &mut steps) {
+        if !has_from_each_place(&table, key, with == 1, &mut steps) {
             return Ok(false);
         }
     }
@@ -363,26 +216,10 @@ fn is_found_in_long_run<L: Ledger>(
         flat.push(i / 2 * 3)?;
         flat.push(i % 2)?;
     }
-    let run = Rows {
-        arity: 3,
-        rows: 100,
-        flat: &flat,
-    };
-    let Some(table) = table_of(alloc, run)? else {
-        return Ok(false);
-    };
-    let Ok(width) = u32::try_from(asked.key.len()) else {
-        return Ok(false);
-    };
-    if table.arity() < width {
-        return Ok(false);
+    match table_of(alloc, Rows(3, 100, &flat))? {
+        None => Ok(false),
+        Some(table) => finds(alloc, table, asked, &mut steps),
     }
-    let want = Range {
-        from: asked.below,
-        to: asked.below.wrapping_add(asked.with),
-    };
-    let indexed = Indexed::build(alloc, table, width, &mut steps)?.lasting(alloc)?;
-    Ok(indexed.find(asked.key, &mut steps) == want)
 }
 
 /// How many rows of the first table are below the key.

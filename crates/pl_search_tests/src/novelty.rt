@@ -1,6 +1,6 @@
 //! Noted sets on a small task, worked by hand.
 
-ghost use Rattle.std.specs.Prelude.{IfOk};
+ghost use Rattle.std.specs.Prelude.{◌≤◌, IfOk};
 ghost use Rattle.pl_state.specs.StateOf.{IsStateOf};
 
 use pl_novel::Novelty;
@@ -10,58 +10,51 @@ use pl_task::{StepRef, Task};
 use std::alloc::{AllocError, Global};
 use std::test::Fail;
 
-/// The atoms of a state, and whether it is new after those before it, under width 1 and under width 2.
+/// Whether a state is new under width 1, and whether it is under width 2.
+type New = (bool, bool);
+
+/// The atoms of a state, and whether it is new after those before it.
 struct NoteCase {
     atoms: &'static [AtomCase],
-    under_one: bool,
-    under_two: bool,
+    new: New,
 }
 
 const NOTES: &[NoteCase] = &[
     NoteCase {
         atoms: &[],
-        under_one: false,
-        under_two: false,
+        new: (false, false),
     },
     NoteCase {
         atoms: &[(0, &[0])],
-        under_one: true,
-        under_two: true,
+        new: (true, true),
     },
     NoteCase {
         atoms: &[(0, &[0])],
-        under_one: false,
-        under_two: false,
+        new: (false, false),
     },
     NoteCase {
         atoms: &[(0, &[3]), (0, &[0])],
-        under_one: true,
-        under_two: true,
+        new: (true, true),
     },
     NoteCase {
         atoms: &[(0, &[3])],
-        under_one: false,
-        under_two: false,
+        new: (false, false),
     },
     NoteCase {
         atoms: &[(2, &[])],
-        under_one: true,
-        under_two: true,
+        new: (true, true),
     },
     NoteCase {
         atoms: &[(2, &[]), (0, &[0])],
-        under_one: false,
-        under_two: true,
+        new: (false, true),
     },
     NoteCase {
         atoms: &[(0, &[3]), (2, &[])],
-        under_one: false,
-        under_two: true,
+        new: (false, true),
     },
     NoteCase {
         atoms: &[(0, &[0]), (2, &[]), (0, &[3])],
-        under_one: false,
-        under_two: false,
+        new: (false, false),
     },
 ];
 
@@ -70,8 +63,7 @@ struct StepCase {
     atoms: &'static [AtomCase],
     schema: u32,
     args: &'static [u32],
-    under_one: bool,
-    under_two: bool,
+    new: New,
 }
 
 const STEPS: &[StepCase] = &[
@@ -80,74 +72,64 @@ const STEPS: &[StepCase] = &[
         atoms: &[(0, &[0])],
         schema: 0,
         args: &[0, 0],
-        under_one: false,
-        under_two: false,
+        new: (false, false),
     },
     StepCase {
         atoms: &[(0, &[0])],
         schema: 0,
         args: &[0, 1],
-        under_one: true,
-        under_two: true,
+        new: (true, true),
     },
     // Two atoms that were seen, and are now together.
     StepCase {
         atoms: &[(0, &[0])],
         schema: 2,
         args: &[0, 1],
-        under_one: false,
-        under_two: true,
+        new: (false, true),
     },
     // One atom, added twice.
     StepCase {
         atoms: &[(0, &[0])],
         schema: 2,
         args: &[0, 0],
-        under_one: false,
-        under_two: false,
+        new: (false, false),
     },
     StepCase {
         atoms: &[(0, &[0])],
         schema: 1,
         args: &[0],
-        under_one: true,
-        under_two: true,
+        new: (true, true),
     },
     // What it added before, beside an atom that it adds not.
     StepCase {
         atoms: &[(0, &[0])],
         schema: 1,
         args: &[1],
-        under_one: false,
-        under_two: true,
+        new: (false, true),
     },
     StepCase {
         atoms: &[(0, &[0]), (0, &[1])],
         schema: 2,
         args: &[1, 2],
-        under_one: true,
-        under_two: true,
+        new: (true, true),
     },
     StepCase {
         atoms: &[(0, &[0]), (0, &[1])],
         schema: 0,
         args: &[0, 2],
-        under_one: false,
-        under_two: false,
+        new: (false, false),
     },
     StepCase {
         atoms: &[(0, &[0]), (0, &[1])],
         schema: 1,
         args: &[2],
-        under_one: false,
-        under_two: true,
+        new: (false, true),
     },
     StepCase {
         atoms: &[(0, &[0]), (0, &[1])],
         schema: 1,
         args: &[1],
-        under_one: false,
-        under_two: false,
+        new: (false, false),
     },
 ];
 
@@ -158,16 +140,32 @@ fn packed(alloc: Global, task: &Task, cases: &[AtomCase]) -> Result<Packed, Allo
     pack(alloc, task, &atoms(alloc, task, cases)?)
 }
 
+/// Whether the state is new under width `k`.
+fn under(k: u32, new: New) -> bool {
+    if k == 1 { new.0 } else { new.1 }
+}
+
+/// How many states, from the first one on, are new under width `k` just where they are to be.
+fn noted_as_wanted(alloc: Global, task: &Task, k: u32) -> Result<usize, AllocError>
+    requires some { 1 ≤ k }
+    requires few { k ≤ 2 }
+{
+    let mut novelty = Novelty::new(alloc, k);
+    for (i, case) in NOTES.iter().enumerate() {
+        let state = packed(alloc, task, case.atoms)?;
+        if novelty.note(task, &state)? != under(k, case.new) {
+            return Ok(i);
+        }
+    }
+    Ok(NOTES.len())
+}
+
 #[test]
 fn states_are_noted(rt: HostRuntime) -> Result<(), Fail> {
-    let alloc = rt.alloc();
-    let task = places(alloc, 4, false)?;
-    let mut one = Novelty::new(alloc, 1);
-    let mut two = Novelty::new(alloc, 2);
-    for (i, case) in NOTES.iter().enumerate() {
-        let state = packed(alloc, &task, case.atoms)?;
-        assert_eq!(rt; one.note(&task, &state)?, case.under_one, "case {i}");
-        assert_eq!(rt; two.note(&task, &state)?, case.under_two, "case {i}");
+    let task = places(rt.alloc(), 4, false)?;
+    for k in 1..=2 {
+        let many = noted_as_wanted(rt.alloc(), &task, k)?;
+        assert_eq!(rt; many, NOTES.len(), "width {k}");
     }
     Ok(())
 }
@@ -193,23 +191,26 @@ fn is_new_by(
     novelty.note_step(task, &next, step)
 }
 
+/// How many steps, from the first one on, lead to a new state under width `k` just where they are to.
+fn stepped_as_wanted(alloc: Global, task: &Task, k: u32) -> Result<usize, AllocError>
+    requires some { 1 ≤ k }
+    requires few { k ≤ 2 }
+{
+    let mut novelty = Novelty::new(alloc, k);
+    for (i, case) in STEPS.iter().enumerate() {
+        if is_new_by(alloc, task, &mut novelty, case)? != under(k, case.new) {
+            return Ok(i);
+        }
+    }
+    Ok(STEPS.len())
+}
+
 #[test]
 fn steps_are_noted(rt: HostRuntime) -> Result<(), Fail> {
-    let alloc = rt.alloc();
-    let task = places(alloc, 4, false)?;
-    let mut one = Novelty::new(alloc, 1);
-    let mut two = Novelty::new(alloc, 2);
-    for (i, case) in STEPS.iter().enumerate() {
-        assert_eq!(rt;
-            is_new_by(alloc, &task, &mut one, case)?,
-            case.under_one,
-            "case {i}"
-        );
-        assert_eq!(rt;
-            is_new_by(alloc, &task, &mut two, case)?,
-            case.under_two,
-            "case {i}"
-        );
+    let task = places(rt.alloc(), 4, false)?;
+    for k in 1..=2 {
+        let many = stepped_as_wanted(rt.alloc(), &task, k)?;
+        assert_eq!(rt; many, STEPS.len(), "width {k}");
     }
     Ok(())
 }
